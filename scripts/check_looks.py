@@ -50,8 +50,8 @@ HOLD = {
     "OpenBlock": "Heading Run", "OpenList": "ListKind", "OpenReplacement": "String", "Run": "BarText OpenList", "Sections": "Style",
     "Step": "TableResult Waits", "Waits": "OpenReplacement", "WrongForm": "str",
     # functions
-    "add_line": "char", "alone": "N", "definition_or_error": "String", "from": "E", "heading_of": "String", "heads_of": "Text",
-    "joined_nonempty": "char", "option": "str", "push": "N", "replacement": "String", "with_parts": "Text",
+    "add_line": "char", "alone": "N", "definition_or_error": "String", "from": "E", "heading_of": "String",
+    "joined_nonempty": "char", "option": "str", "push": "N", "replacement": "String", "shortened": "String",
     MACHINE: "Begun Cell Ended Frame Frames LineTest Lines OpenBlock Rows Step TableResult Waits",
 }
 # How many lines there are, their numbers, and where they are; how views and lines are made.

@@ -1,16 +1,16 @@
 -- The heads of a text that was read.
-use Rattle.std.proofs.Common.{◌≡◌, ℕ, List, length, ap, subst, ◌∙◌}
+use Rattle.std.proofs.Common.{◌≡◌, ℕ, List, Option, length, ap, subst, ◌∙◌}
 use Rattle.rst_tree.specs.declared.node.Node.{Node}
 use Rattle.rst_inline_scan.specs.Pieces.{IsPieces}
 use Rattle.rst_inline_scan.specs.declared.piece.Piece.{Piece}
 use Rattle.rst_inline.specs.Results.{IsRead}
 use Rattle.rst_inline.specs.declared.nodes.Pieces.{Pieces}
 use Rattle.rst_block_nodes.specs.Results.{HeadsText}
-use Rattle.rst_block_nodes.specs.Terms.{piece_texts, groups_of, heads_of}
+use Rattle.rst_block_nodes.specs.Terms.{parts_of_pieces, groups_of, heads_of}
 use Rattle.rst_block_nodes.specs.Texts.{messages_from}
 use Rattle.rst_block_nodes.specs.declared.terms.Heads.{Heads}
 
-pub headed_text : (text cs ds : List ℕ) (line first notes : ℕ) (pieces qs : List Piece) (reading : Pieces) (texts : List (List (List ℕ))) (nodes : List Node) (made : Heads) → cs ≡ text → ds ≡ text → qs ≡ pieces → IsPieces cs 0 pieces → IsRead text line first reading → texts ≡ piece_texts ds qs → notes ≡ length made.notes.items → nodes ≡ reading.nodes.items → made.heads.items ≡ heads_of notes line (groups_of texts nodes) → made.notes.items ≡ messages_from first reading.notes.items → HeadsText text line first made
+pub headed_text : (text cs ds : List ℕ) (line first notes : ℕ) (pieces qs : List Piece) (reading : Pieces) (texts : List (List (Option Node))) (nodes : List Node) (made : Heads) → cs ≡ text → ds ≡ text → qs ≡ pieces → IsPieces cs 0 pieces → IsRead text line first reading → texts ≡ parts_of_pieces ds qs → notes ≡ length made.notes.items → nodes ≡ reading.nodes.items → made.heads.items ≡ heads_of notes line (groups_of texts nodes) → made.notes.items ≡ messages_from first reading.notes.items → HeadsText text line first made
 headed_text text cs ds line first notes pieces qs reading texts nodes made same alike listed are read those many all heads messages = (
   pieces,
   reading,
@@ -18,8 +18,8 @@ headed_text text cs ds line first notes pieces qs reading texts nodes made same 
   read,
   record {
     heads = heads ∙ ap (λ n. heads_of n line (groups_of texts nodes)) many
-        ∙ ap (λ ps. heads_of (length made.notes.items) line (groups_of ps nodes)) (those ∙ ap (λ t. piece_texts t qs) alike ∙ ap (piece_texts text) listed)
-        ∙ ap (λ ns. heads_of (length made.notes.items) line (groups_of (piece_texts text pieces) ns)) all;
+        ∙ ap (λ ps. heads_of (length made.notes.items) line (groups_of ps nodes)) (those ∙ ap (λ t. parts_of_pieces t qs) alike ∙ ap (parts_of_pieces text) listed)
+        ∙ ap (λ ns. heads_of (length made.notes.items) line (groups_of (parts_of_pieces text pieces) ns)) all;
     notes = messages;
   },
 )

@@ -13,7 +13,7 @@ use Rattle.rst_block_nodes.specs.declared.texted.Texted.{Texted}
 use Rattle.rst_block_nodes.specs.Elements.{element_of}
 use Rattle.rst_block_nodes.specs.Readings.{read_nodes, read_notes, texted_node, term_nodes, texted, termed}
 use Rattle.rst_block_nodes.specs.Results.{HoldsText, HeadsText}
-use Rattle.rst_block_nodes.specs.Terms.{piece_texts, groups_of, heads_of}
+use Rattle.rst_block_nodes.specs.Terms.{parts_of_pieces, groups_of, heads_of}
 use Rattle.rst_block_nodes.specs.Texts.{counting, messages_from}
 
 reading_is : (t : List ℕ) (line first : ℕ) (r : Pieces) → IsRead t line first r → (r.nodes.items ≡ read_nodes t line first) × (messages_from first r.notes.items ≡ read_notes t line first)
@@ -38,9 +38,9 @@ pub termed-is : (t : List ℕ) (line first : ℕ) (made : Heads) → HeadsText t
 termed-is t line first made h =
     let r = reading_is t line first h.1 h.3 in (
       h.4.heads
-          ∙ ap (λ (ns : List Node). heads_of (length ns) line (groups_of (piece_texts t h.0) h.1.nodes.items)) (h.4.notes ∙ r.1)
-          ∙ ap (λ (xs : List Node). heads_of (length (read_notes t line first)) line (groups_of (piece_texts t h.0) xs)) r.0
-          ∙ ap (λ (ps : List Piece). heads_of (length (read_notes t line first)) line (groups_of (piece_texts t ps) (read_nodes t line first))) (pieces_of-only t h.0 h.2),
+          ∙ ap (λ (ns : List Node). heads_of (length ns) line (groups_of (parts_of_pieces t h.0) h.1.nodes.items)) (h.4.notes ∙ r.1)
+          ∙ ap (λ (xs : List Node). heads_of (length (read_notes t line first)) line (groups_of (parts_of_pieces t h.0) xs)) r.0
+          ∙ ap (λ (ps : List Piece). heads_of (length (read_notes t line first)) line (groups_of (parts_of_pieces t ps) (read_nodes t line first))) (pieces_of-only t h.0 h.2),
       h.4.notes ∙ r.1,
     )
 

@@ -11,7 +11,7 @@ use Rattle.rst_block_nodes.specs.declared.texted.Texted.{Texted}
 use Rattle.rst_block_nodes.specs.Elements.{element_of}
 use Rattle.rst_block_nodes.specs.Numbered.{Numbered}
 use Rattle.rst_block_nodes.specs.Results.{HoldsText, HeadsText}
-use Rattle.rst_block_nodes.specs.Terms.{piece_texts, groups_of, heads_of}
+use Rattle.rst_block_nodes.specs.Terms.{parts_of_pieces, groups_of, heads_of}
 use Rattle.rst_block_nodes.specs.Texts.{counting, messages_from}
 
 -- the nodes of a text, where the messages on it are numbered from `first` on
@@ -28,7 +28,7 @@ texted_node tag line t text_line first = element_of tag (counting (length (read_
 
 -- the elements of a term and of its classifiers, which are the parts of one text
 abbrev pub term_nodes : List ℕ → ℕ → ℕ → List Node
-term_nodes t line first = heads_of (length (read_notes t line first)) line (groups_of (piece_texts t (pieces_of t)) (read_nodes t line first))
+term_nodes t line first = heads_of (length (read_notes t line first)) line (groups_of (parts_of_pieces t (pieces_of t)) (read_nodes t line first))
 
 -- an element of this line that holds a text, whose first line is `text_line`, and the messages on the text, which have that line's number
 abbrev pub texted : Tag → ℕ → List ℕ → ℕ → Numbered (Node × List Node)

@@ -8,7 +8,7 @@ use Rattle.rst_inline.specs.declared.nodes.Pieces.{Pieces}
 use Rattle.rst_block_nodes.specs.declared.terms.Heads.{Heads}
 use Rattle.rst_block_nodes.specs.declared.texted.Texted.{Texted}
 use Rattle.rst_block_nodes.specs.Elements.{element_of}
-use Rattle.rst_block_nodes.specs.Terms.{piece_texts, groups_of, heads_of}
+use Rattle.rst_block_nodes.specs.Terms.{parts_of_pieces, groups_of, heads_of}
 use Rattle.rst_block_nodes.specs.Texts.{counting, messages_from}
 
 -- an element with the nodes that were read, and the messages
@@ -22,7 +22,7 @@ HoldsText tag line text text_line first texted = (read : Pieces) × IsRead text 
 
 -- the heads of the nodes that were read, whose texts are those of the pieces of a text, and the messages
 pub record AreHeadsOf (text : List ℕ) (pieces : List Piece) (line first : ℕ) (read : Pieces) (made : Heads) : Type 0 where
-  pub heads : made.heads.items ≡ heads_of (length made.notes.items) line (groups_of (piece_texts text pieces) read.nodes.items)
+  pub heads : made.heads.items ≡ heads_of (length made.notes.items) line (groups_of (parts_of_pieces text pieces) read.nodes.items)
   pub notes : made.notes.items ≡ messages_from first read.notes.items
 
 -- those of a text, whose pieces are exactly one list

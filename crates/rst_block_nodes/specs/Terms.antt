@@ -1,5 +1,5 @@
 -- Terms and classifiers, and their parts (Markup Specification, 'Definition Lists').
-use Rattle.std.specs.Prelude.{◌≡◌, ℕ, zero, suc, Bool, true, false, ◌&&◌, ◌==◌, not, List, [], ◌∷◌, ◌++◌, take, map, if◌then◌else◌, encode_utf8_all}
+use Rattle.std.specs.Prelude.{ℕ, zero, suc, Bool, true, false, ◌&&◌, ◌==◌, not, List, [], ◌∷◌, ◌++◌, Option, None, Some, take, map, if◌then◌else◌, encode_utf8_all}
 use Rattle.rst_text.specs.Characters.{is_white}
 use Rattle.std.specs.List.{flat_map}
 use Rattle.rst_text.specs.Escapes.{escapes}
@@ -11,8 +11,7 @@ use Rattle.rst_tree.specs.declared.node.Node.{Node}
 use Rattle.rst_tree.specs.declared.node.Node.TheVariants.{Element, Text as Words}
 use Rattle.rst_tree.specs.declared.tag.Tag.TheVariants.{Term, Classifier}
 use Rattle.rst_block_nodes.specs.declared.terms.Letter.{Letter}
-use Rattle.rst_block_nodes.specs.declared.terms.Unfinished.{Unfinished}
-use Rattle.rst_block_nodes.specs.Elements.{element_of, text_nodes}
+use Rattle.rst_block_nodes.specs.Elements.{element_of}
 use Rattle.rst_block_nodes.specs.Texts.{counting}
 
 -- the characters that are left when escapes are gone
@@ -56,53 +55,52 @@ begins_with_space (l ∷ ls) = is_bare l 32
 abbrev pub is_delimiter : List Letter → Letter → List Letter → Bool
 is_delimiter before l following = is_bare l 58 && (ends_in_space before && begins_with_space following)
 
--- The letters cut at delimiters, with the spaces round them. `part` comes first; the spaces at the front are skipped.
-abbrev pub cut_at_delimiters : Bool → List Letter → List Letter → List (List Letter)
-cut_at_delimiters skipping part [] = part ∷ []
+-- the text that letters spell, unless there is none
+abbrev pub spelled : List Letter → List (Option Node)
+spelled [] = []
+spelled (l ∷ ls) = Some (Words (encode_utf8_all (map (λ l. l.character) (l ∷ ls)))) ∷ []
+
+-- The texts of letters cut at delimiters, without the spaces round them; each delimiter is None. `part` comes first; the spaces at the front
+-- are skipped.
+abbrev pub cut_at_delimiters : Bool → List Letter → List Letter → List (Option Node)
+cut_at_delimiters skipping part [] = spelled part
 cut_at_delimiters skipping part (l ∷ ls) =
     if skipping && is_bare l 32 then cut_at_delimiters true part ls
-    else if is_delimiter part l ls then take (dark_len part) part ∷ cut_at_delimiters true [] ls
+    else if is_delimiter part l ls then spelled (take (dark_len part) part) ++ None ∷ cut_at_delimiters true [] ls
     else cut_at_delimiters false (part ++ l ∷ []) ls
 
--- the bytes of letters
-abbrev pub letter_bytes : List Letter → List ℕ
-letter_bytes ls = encode_utf8_all (map (λ l. l.character) ls)
-
--- the texts of the parts
-abbrev pub term_parts : List Letter → List (List ℕ)
-term_parts ls = map letter_bytes (cut_at_delimiters false [] ls)
-
 -- the parts of a piece of a kind with some letters, where it is text without markup and has a letter
-abbrev pub parts_by : Kind → List Letter → List (List (List ℕ))
-parts_by Plain (l ∷ ls) = term_parts (l ∷ ls) ∷ []
+abbrev pub parts_by : Kind → List Letter → List (List (Option Node))
+parts_by Plain (l ∷ ls) = cut_at_delimiters false [] (l ∷ ls) ∷ []
 parts_by kind ls = []
 
 -- the parts of the texts among the nodes of pieces, text after text
-abbrev pub piece_texts : List ℕ → List Piece → List (List (List ℕ))
-piece_texts t pieces = flat_map (λ p. parts_by p.kind (letters_from false (source t p))) pieces
-
--- ---- their nodes
-
--- nodes before groups: they belong to the first
-abbrev pub prepended : List Node → List (List Node) → List (List Node)
-prepended nodes [] = nodes ∷ []
-prepended nodes (group ∷ groups) = (nodes ++ group) ∷ groups
-
--- groups before others: the last of the former and the first of the latter are one
-abbrev pub merged_groups : List (List Node) → List (List Node) → List (List Node)
-merged_groups [] groups = groups
-merged_groups (first ∷ []) groups = prepended first groups
-merged_groups (first ∷ next ∷ others) groups = first ∷ merged_groups (next ∷ others) groups
-
--- The nodes of a term and of each of its classifiers: a text consists of its parts, of which each but the last ends a group;
--- an element stays whole.
-abbrev pub groups_of : List (List (List ℕ)) → List Node → List (List Node)
-groups_of texts [] = [] ∷ []
-groups_of [] (node ∷ nodes) = prepended (node ∷ []) (groups_of [] nodes)
-groups_of (parts ∷ texts) (Words t ∷ nodes) = merged_groups (map text_nodes parts) (groups_of texts nodes)
-groups_of (parts ∷ texts) (Element t a c l ∷ nodes) = prepended (Element t a c l ∷ []) (groups_of (parts ∷ texts) nodes)
+abbrev pub parts_of_pieces : List ℕ → List Piece → List (List (Option Node))
+parts_of_pieces t pieces = flat_map (λ p. parts_by p.kind (letters_from false (source t p))) pieces
 
 -- ---- their elements
+
+-- nodes where each text consists of its parts, text after text; None ends the term and each classifier
+abbrev pub with_parts : List (List (Option Node)) → List Node → List (Option Node)
+with_parts texts [] = None ∷ []
+with_parts [] (node ∷ nodes) = Some node ∷ with_parts [] nodes
+with_parts (parts ∷ texts) (Words t ∷ nodes) = parts ++ with_parts texts nodes
+with_parts (parts ∷ texts) (Element t a c l ∷ nodes) = Some (Element t a c l) ∷ with_parts (parts ∷ texts) nodes
+
+-- a node at the front of the first group
+abbrev pub led : Node → List (List Node) → List (List Node)
+led node [] = []
+led node (group ∷ groups) = (node ∷ group) ∷ groups
+
+-- the nodes before each None
+abbrev pub ended_groups : List (Option Node) → List (List Node)
+ended_groups [] = []
+ended_groups (None ∷ nodes) = [] ∷ ended_groups nodes
+ended_groups (Some node ∷ nodes) = led node (ended_groups nodes)
+
+-- the nodes of the term and of each classifier
+abbrev pub groups_of : List (List (Option Node)) → List Node → List (List Node)
+groups_of texts nodes = ended_groups (with_parts texts nodes)
 
 -- a classifier of a line
 abbrev pub classifier_node : ℕ → List Node → Node
@@ -112,18 +110,3 @@ classifier_node line nodes = element_of Classifier [] nodes line
 abbrev pub heads_of : ℕ → ℕ → List (List Node) → List Node
 heads_of notes line [] = []
 heads_of notes line (group ∷ groups) = element_of Term (counting notes) group line ∷ map (classifier_node line) groups
-
--- ---- heads that are being made (no rule of markup)
-
--- elements that are done, and the heads of further groups
-abbrev pub heads_after : ℕ → ℕ → List Node → List (List Node) → List Node
-heads_after notes line [] groups = heads_of notes line groups
-heads_after notes line (head ∷ heads) groups = head ∷ heads ++ map (classifier_node line) groups
-
--- the heads that these become where further groups follow
-abbrev pub heads_with : ℕ → ℕ → Unfinished → List (List Node) → List Node
-heads_with notes line heads groups = heads_after notes line heads.done.items (prepended heads.nodes.items groups)
-
--- whatever follows, these heads become what the former become with the parts before what follows
-abbrev pub IsPut : ℕ → ℕ → Unfinished → List (List ℕ) → Unfinished → Type 0
-IsPut notes line heads parts made = (rest : List (List Node)) → heads_with notes line made rest ≡ heads_with notes line heads (merged_groups (map text_nodes parts) rest)

@@ -1,9 +1,9 @@
 //! Terms of definition lists, with their classifiers.
-ghost use Rattle.std.specs.Prelude.{◌≡◌, ◌≤◌, false, [], ◌∷◌, map, length, IfOk, Ok, chars};
+ghost use Rattle.std.specs.Prelude.{◌≡◌, ◌≤◌, false, [], ◌++◌, map, length, IfOk, Ok, chars};
 ghost use Rattle.rst_tree.specs.Sends.{counted_on};
 ghost use Rattle.rst_block_nodes.specs.Readings.{termed};
 ghost use Rattle.rst_block_nodes.specs.Results.{HeadsText};
-ghost use Rattle.rst_block_nodes.specs.Terms.{IsPut, groups_of, heads_after, heads_of, piece_texts, letters_from, term_parts, is_bare, is_delimiter, dark_len, letter_bytes};
+ghost use Rattle.rst_block_nodes.specs.Terms.{ended_groups, heads_of, with_parts, parts_of_pieces, letters_from, cut_at_delimiters, is_bare, is_delimiter, dark_len, spelled};
 
 use super::nodes::element_of;
 use super::numbers::Numbers;
@@ -44,7 +44,8 @@ pub fn term_and_classifiers(
     let Pieces { nodes, notes } = inline_from(alloc, text, line, first)?;
     numbers.give(notes.len());
     let notes = messages_of(alloc, notes, first)?;
-    let heads = heads_of(alloc, nodes, parts, notes.len(), line)?;
+    let nodes = with_parts(alloc, nodes, parts)?;
+    let heads = heads_of(alloc, nodes, notes.len(), line)?;
     Ok(Heads { heads, notes })
 }
 
@@ -56,8 +57,8 @@ struct Letter {
 }
 
 /// The parts of those pieces without markup of which something is left when escapes are gone, piece after piece.
-fn plain_parts(alloc: Global, text: &[char], pieces: &[Piece]) -> Result<Vec<Vec<Text>>>
-    ensures { IfOk result (λ parts. map (λ texts. texts.items) parts.items ≡ piece_texts text.now pieces.now) }
+fn plain_parts(alloc: Global, text: &[char], pieces: &[Piece]) -> Result<Vec<Vec<Option<Node>>>>
+    ensures { IfOk result (λ parts. map (λ part. part.items) parts.items ≡ parts_of_pieces text.now pieces.now) }
 {
     let mut parts = Vec::new(alloc);
     for piece in pieces {
@@ -66,7 +67,7 @@ fn plain_parts(alloc: Global, text: &[char], pieces: &[Piece]) -> Result<Vec<Vec
         }
         let letters = letters_of(alloc, part(text, piece.from, piece.to))?;
         if !letters.is_empty() {
-            parts.push(term_parts(alloc, &letters)?)?;
+            parts.push(cut_at_delimiters(alloc, &letters)?)?;
         }
     }
     Ok(parts)
@@ -91,9 +92,9 @@ fn letters_of(alloc: Global, text: &[char]) -> Result<Vec<Letter>, AllocError>
     Ok(letters)
 }
 
-/// The texts before, between and after the colons with spaces on both sides, without these spaces.
-fn term_parts(alloc: Global, letters: &[Letter]) -> Result<Vec<Text>>
-    ensures { IfOk result (λ parts. parts.items ≡ term_parts letters.now) }
+/// The texts before, between and after the colons with spaces on both sides, without these spaces; each colon is `None`.
+fn cut_at_delimiters(alloc: Global, letters: &[Letter]) -> Result<Vec<Option<Node>>>
+    ensures { IfOk result (λ parts. parts.items ≡ cut_at_delimiters false [] letters.now) }
 {
     let mut parts = Vec::new(alloc);
     let mut part = Vec::new(alloc);
@@ -105,13 +106,14 @@ fn term_parts(alloc: Global, letters: &[Letter]) -> Result<Vec<Text>>
         }
         skipping = is_delimiter(&part, letter, &letters[place + 1..]);
         if skipping {
-            parts.push(letter_bytes(alloc, &part[..dark_len(&part)])?)?;
+            push_text(alloc, &mut parts, &part[..dark_len(&part)])?;
+            parts.push(None)?;
             part = Vec::new(alloc);
             continue;
         }
         part.push(letter)?;
     }
-    parts.push(letter_bytes(alloc, &part)?)?;
+    push_text(alloc, &mut parts, &part)?;
     Ok(parts)
 }
 
@@ -148,91 +150,64 @@ fn dark_len(letters: &[Letter]) -> usize
     len
 }
 
-/// The text that letters spell.
-fn letter_bytes(alloc: Global, letters: &[Letter]) -> Result<Text, AllocError>
-    ensures { IfOk result (λ text. text ≡ letter_bytes letters.now) }
+/// Puts the text that letters spell after the last part, unless there is none.
+#[tactic(auto, using(crate::proofs::TermLemmas::spelled_some))]
+fn push_text(alloc: Global, parts: &mut Vec<Option<Node>>, letters: &[Letter]) -> Result<()>
+    ensures { IfOk result (λ _. parts.new.items ≡ parts.old.items ++ spelled letters.now) }
 {
+    if letters.is_empty() {
+        return Ok(());
+    }
     let text: String = letters
         .iter()
         .map(|letter| letter.character)
         .collect(alloc)?;
-    Ok(Text::new(text))
+    parts.push(Some(Node::Text(Text::new(text))))?;
+    Ok(())
 }
 
-/// The elements that are done, and the nodes of the one that isn't.
-#[derive(Drop)]
-struct Unfinished {
-    done: Vec<Node>,
-    nodes: Vec<Node>,
-}
-
-/// The term and the classifiers of nodes, whose texts consist of these parts, text after text.
-fn heads_of(
+/// Nodes where each text consists of its parts, text after text. `None` ends the term and each classifier.
+fn with_parts(
     alloc: Global,
     nodes: Vec<Node>,
-    parts: Vec<Vec<Text>>,
-    notes: usize,
-    line: usize,
-) -> Result<Vec<Node>>
-    ensures { IfOk result (λ heads. heads.items ≡ heads_of notes line (groups_of (map (λ texts. texts.items) parts.items) nodes.items)) }
+    parts: Vec<Vec<Option<Node>>>,
+) -> Result<Vec<Option<Node>>>
+    ensures { IfOk result (λ all. all.items ≡ with_parts (map (λ part. part.items) parts.items) nodes.items) }
 {
-    let mut heads = Unfinished {
-        done: Vec::new(alloc),
-        nodes: Vec::new(alloc),
-    };
     let mut parts = parts.into_iter();
+    let mut all = Vec::new(alloc);
     for node in nodes {
         match node {
             Node::Text(text) => match parts.next() {
-                Some(texts) => heads = with_parts(alloc, heads, texts, notes, line)?,
-                None => heads.nodes.push(Node::Text(text))?,
+                Some(mut of_text) => all.append(&mut of_text)?,
+                None => all.push(Some(Node::Text(text)))?,
             },
-            element => heads.nodes.push(element)?,
+            element => all.push(Some(element))?,
         }
     }
-    let heads = closed_head(alloc, heads, notes, line)?;
-    Ok(heads.done)
+    all.push(None)?;
+    Ok(all)
 }
 
-/// The parts of a text put after the nodes: each but the first begins a classifier.
-fn with_parts(
-    alloc: Global,
-    heads: Unfinished,
-    parts: Vec<Text>,
-    notes: usize,
-    line: usize,
-) -> Result<Unfinished>
-    ensures { IfOk result (IsPut notes line heads parts.items) }
+/// The elements of nodes, where `None` ends each: the first is the term, the others are classifiers.
+fn heads_of(alloc: Global, nodes: Vec<Option<Node>>, notes: usize, line: usize) -> Result<Vec<Node>>
+    ensures { IfOk result (λ heads. heads.items ≡ heads_of notes line (ended_groups nodes.items)) }
 {
-    let mut heads = heads;
-    let mut is_first = true;
-    for part in parts {
-        if !is_first {
-            heads = closed_head(alloc, heads, notes, line)?;
-        }
-        is_first = false;
-        if !part.as_str().is_empty() {
-            heads.nodes.push(Node::Text(part))?;
+    let mut heads = Vec::new(alloc);
+    let mut group = Vec::new(alloc);
+    for node in nodes {
+        match node {
+            Some(node) => group.push(node)?,
+            None => {
+                let head = if heads.is_empty() {
+                    element_of(Tag::Term, counting(alloc, notes)?, group, line)
+                } else {
+                    element_of(Tag::Classifier, Attrs::new(alloc), group, line)
+                };
+                heads.push(head)?;
+                group = Vec::new(alloc);
+            }
         }
     }
     Ok(heads)
-}
-
-/// The nodes made an element: the first is the term, the others are classifiers.
-#[tactic(auto, using(crate::proofs::HeadLemmas::first_head, crate::proofs::HeadLemmas::further_head))]
-fn closed_head(alloc: Global, heads: Unfinished, notes: usize, line: usize) -> Result<Unfinished>
-    ensures done { IfOk result (λ closed_head. closed_head.done.items ≡ heads_after notes line heads.done.items (heads.nodes.items ∷ [])) }
-    ensures nodes { IfOk result (λ closed_head. closed_head.nodes.items ≡ []) }
-{
-    let Unfinished { mut done, nodes } = heads;
-    let head = if done.is_empty() {
-        element_of(Tag::Term, counting(alloc, notes)?, nodes, line)
-    } else {
-        element_of(Tag::Classifier, Attrs::new(alloc), nodes, line)
-    };
-    done.push(head)?;
-    Ok(Unfinished {
-        done,
-        nodes: Vec::new(alloc),
-    })
 }

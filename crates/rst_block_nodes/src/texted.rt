@@ -48,6 +48,8 @@ pub fn with_text(
 }
 
 /// The messages of a text as nodes, numbered from the first on.
+// Most texts have no messages, and then need no call.
+#[inline(always)]
 #[tactic(auto, using(crate::proofs::MessageLemmas::messages_from_append, crate::proofs::MessageLemmas::number_after_append))]
 pub(crate) fn messages_of(alloc: Global, notes: Vec<Note>, first: u64) -> Result<Vec<Node>>
     ensures { IfOk result (λ messages. messages.items ≡ messages_from first notes.items) }
@@ -65,6 +67,7 @@ pub(crate) fn messages_of(alloc: Global, notes: Vec<Note>, first: u64) -> Result
 }
 
 /// The attribute with the number of messages that an element's text has, if it has some.
+#[inline(always)]
 pub(crate) fn counting(alloc: Global, notes: usize) -> Result<Attrs>
     ensures { IfOk result (λ attrs. attrs ≡ counting notes) }
 {
