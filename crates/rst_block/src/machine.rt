@@ -134,6 +134,7 @@ fn read_on<'a>(
 }
 
 /// What comes first in a block of which nothing was read. Below the last level it must be blank.
+#[inline(never)]
 fn begin(view: &View<'_>, level: &mut OpenBlock, pass: &mut Pass) -> Result<Step>
     requires new { IsNew level.old }
     requires depth { level.old.depth ≤ 251 }
@@ -149,6 +150,8 @@ fn begin(view: &View<'_>, level: &mut OpenBlock, pass: &mut Pass) -> Result<Step
 }
 
 /// What comes in a block after the constructs that are read at once: one that waits for a block inside, or the block's end.
+// Most lines pass through it, so a call would cost more than its code at two places.
+#[inline(always)]
 #[tactic(auto, using(rst_block_state::proofs::Views::few_lines, crate::proofs::Stack::next_of_step))]
 fn next(view: &View<'_>, level: &mut OpenBlock, pass: &mut Pass) -> Result<Step>
     ensures next { IfOk result (λ s. spec.IsNext (block_of view.now) level.old.at level.new.at s) }

@@ -34,6 +34,8 @@ pub enum Item {
 }
 
 /// Has the list open that an item is in: that before the next line, or a new one. The item's lines are this part.
+// Where it is called the kind of item is known.
+#[inline(always)]
 pub fn enter_list(
     view: &View<'_>,
     level: &mut OpenBlock,

@@ -106,7 +106,7 @@ fn explicit_markup_of(
         }
         Explicit::Directive(invocation) => directive_block(view, level, &invocation, pass),
         Explicit::Substitution { name, embedded, .. } => {
-            let name = label_text(pass.alloc, view, level.at, name, &mut pass.looks)?;
+            let name = excerpt(pass.alloc, view.line(level.at, &mut pass.looks), name)?;
             substitution_definition(view, level, name.as_str(), embedded, end, pass)
         }
     }
@@ -130,7 +130,7 @@ fn labelled_block(
         IsPartRead 1 B level.old pass.old nodes (lines_in B body ∷ []) body.to level.new pass.new result }
 {
     let line = number_at(view, level.at);
-    let label = label_text(pass.alloc, view, level.at, label, &mut pass.looks)?;
+    let label = excerpt(pass.alloc, view.line(level.at, &mut pass.looks), label)?;
     let element = match kind {
         LabelKind::Footnote => footnote(pass.alloc, label.as_str(), line)?,
         LabelKind::Citation => citation(pass.alloc, label.as_str(), line)?,
@@ -163,7 +163,7 @@ fn target_block(
     let line = number_at(view, level.at);
     let element = match name {
         Some(name) => {
-            let name = label_text(alloc, view, level.at, name, &mut pass.looks)?;
+            let name = excerpt(alloc, view.line(level.at, &mut pass.looks), name)?;
             target(alloc, Some(name.as_str()), lines.as_str(), line)?
         }
         None => target(alloc, None, lines.as_str(), line)?,
@@ -193,21 +193,6 @@ fn comment(
     level.push(node)?;
     put_cause(pass.alloc, level, cause, line)?;
     Ok(Step::Next)
-}
-
-/// The characters of a label or name in the first line of explicit markup.
-fn label_text(
-    alloc: Global,
-    view: &View<'_>,
-    at: usize,
-    place: Characters,
-    looks: &mut Looks,
-) -> Result<String, AllocError>
-    requires inside { at < length (block_of view.now) }
-    ensures text { IfOk result (λ label. string_bytes label ≡ excerpt (first_text (drop at (block_of view.now))) place) }
-    ensures looks { looks.new ≡ capped (looks.old + 1) }
-{
-    excerpt(alloc, view.line(at, looks), place)
 }
 
 /// Puts a node after the last, in a block that goes on at place `end`.

@@ -1,5 +1,5 @@
 -- Views: how many lines they show at most.
-use Rattle.std.proofs.Common.{◌-◌, ◌<◌, ◌≤◌, ◌^◌, length, arith}
+use Rattle.std.proofs.Common.{◌<◌, ◌≤◌, ◌^◌, length, arith}
 use Rattle.rst_text.specs.ViewBlock.{block_of}
 use Rattle.rst_text.specs.declared.view.View.{View}
 use Rattle.rst_text.proofs.Cuts.{length-block_of}

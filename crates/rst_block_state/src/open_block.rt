@@ -4,13 +4,13 @@ ghost use Rattle.std.specs.Prelude.{◌≡◌, ◌<◌, []};
 use super::fault::Result;
 use super::run::{ListKind, OpenList, Run};
 use super::step::Step;
-use super::texts::{Pass, number_at, unindent};
+use super::texts::{Pass, number_at};
 use super::waits::Waits;
-use rst_block_nodes::Heading;
+use rst_block_nodes::{Heading, message};
 use rst_markup_blocks::{Part, text_at};
 use rst_markup_lines::is_blank;
 use rst_text::View;
-use rst_tree::Node;
+use rst_tree::{Level, Node};
 use rst_tree_index::{Marked, MarkedNodes};
 use std::alloc::Global;
 use std::mem;
@@ -205,6 +205,7 @@ impl OpenBlock {
         if is_blank(text_at(view, end, &mut pass.looks)) {
             return Ok(());
         }
-        self.push(unindent(pass.alloc, number_at(view, end), text)?)
+        let line = number_at(view, end);
+        self.push(message(pass.alloc, Level::Warning, line, text, None)?)
     }
 }

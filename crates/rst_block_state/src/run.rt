@@ -83,16 +83,6 @@ impl ListKind {
     }
 }
 
-/// The ordinal of a list's first item, unless it is `#`.
-fn ordinal_of(ordinals: Ordinals) -> Option<u64>
-    ensures { result ≡ joins.ordinal_of ordinals }
-{
-    match ordinals {
-        Ordinals::Auto => None,
-        _ => Some(first_reading(ordinals).ordinal),
-    }
-}
-
 /// Whether an ordinal is the next after the last one.
 fn is_next_after(last: u64, ordinal: Option<u64>) -> bool
     ensures { result ≡ joins.is_next_after last ordinal }
@@ -112,7 +102,10 @@ impl Sequel {
         Sequel {
             format: enumerator.format,
             sequence: first_reading(ordinals).sequence,
-            last: ordinal_of(ordinals),
+            last: match ordinals {
+                Ordinals::Auto => None,
+                _ => Some(first_reading(ordinals).ordinal),
+            },
         }
     }
 

@@ -2,14 +2,13 @@
 ghost use Rattle.std.specs.Prelude.{◌≡◌, ◌+◌, ◌-◌, ◌<◌, ◌≤◌, [], ◌∷◌, ◌++◌, length, take, drop, slice_range, string_bytes, encode_utf8_all, IfOk, chars};
 ghost use Rattle.rst_markup_blocks.specs.Prelude.{first_number, capped, block_of};
 ghost use Rattle.rst_text.specs.Text.{chars_of};
-ghost use Rattle.rst_tree.specs.declared.note.Level.TheVariants.{Warning};
 ghost use Rattle.rst_block_state.specs.LineRuns.{number_or};
 ghost use Rattle.rst_block_state.specs.Texts as spec;
 
-use rst_block_nodes::{Numbers, message};
+use rst_block_nodes::Numbers;
 use rst_markup_lines::Characters;
 use rst_text::{Looks, View, skip};
-use rst_tree::{Level, Node};
+use rst_tree::Node;
 use rst_tree_index::{MarkedIter, MarkedNodes};
 use std::alloc::{AllocError, Global};
 
@@ -66,11 +65,6 @@ pub fn characters(
     Ok(part)
 }
 
-/// How many bytes a text of some lines has that isn't long.
-fn usual_size(lines: usize) -> usize {
-    lines.min(12) * 80
-}
-
 /// The lines of a view, joined by line feeds, at the price of one look at each.
 pub fn joined(alloc: Global, view: &View<'_>, looks: &mut Looks) -> Result<String, AllocError>
     ensures bytes { IfOk result (λ text. string_bytes text ≡ spec.spelled (block_of view.now)) }
@@ -78,7 +72,8 @@ pub fn joined(alloc: Global, view: &View<'_>, looks: &mut Looks) -> Result<Strin
     ensures each { IfOk result (λ _. capped (looks.old + length (block_of view.now)) ≤ looks.new) }
     ensures most { looks.new ≤ looks.old + length (block_of view.now) }
 {
-    let mut text = String::with_capacity(alloc, usual_size(view.len()))?;
+    // Most texts are short, and then need no more room.
+    let mut text = String::with_capacity(alloc, view.len().min(12) * 80)?;
     for i in 0..view.len() {
         if 0 < i {
             text.push('\n')?;
@@ -135,13 +130,6 @@ pub fn first_line_or(lines: &View<'_>, line: usize) -> usize
     } else {
         line
     }
-}
-
-/// The message on a construct that isn't followed by a blank line.
-pub(crate) fn unindent(alloc: Global, line: usize, text: &str) -> Result<Node, AllocError>
-    ensures { IfOk result (λ node. node ≡ spec.system_message Warning line text.now) }
-{
-    message(alloc, Level::Warning, line, text, None)
 }
 
 /// One node in a list of its own.

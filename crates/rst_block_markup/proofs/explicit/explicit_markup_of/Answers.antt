@@ -8,6 +8,7 @@ use Rattle.rst_block_nodes.specs.Elements.{preserved_node}
 use Rattle.rst_block_state.specs.Directives.{substitution_nodes}
 use Rattle.rst_block_state.specs.machine.Meanings.{within_at}
 use Rattle.rst_block_state.specs.Numbered.{just}
+use Rattle.rst_block_state.specs.Texts.{excerpt}
 use Rattle.rst_block_state.proofs.NextConstructs.{span_to}
 use Rattle.rst_block_markup.proofs.MarkupPaid.{form_in, embedded_in, form_read}
 use Rattle.rst_block_markup.proofs.PartLemmas.{part_as, put_reads}
@@ -64,7 +65,7 @@ pub returns-in_ok-name-in-Substitution : goal.returns-in_ok-name-in-Substitution
 returns-in_ok-name-in-Substitution c =
     let B : Block = block_of c.args.view.now in
     let l = c.args.level.now in
-    let name = c.as_str.ensures.value ∙ c.in_ok-name-in-Substitution.ensures.text in
+    let name = c.as_str.ensures.value ∙ c.in_ok-name-in-Substitution.ensures ∙ ap (λ t. excerpt t c.in-Substitution.name) c.line.ensures.text in
     let nodes = ap (λ t. substitution_nodes (within_at l.depth) B (span_to l.at c.args.end) t c.in-Substitution.embedded) name in
-    form_read {few = 18 * (c.args.end - l.at)} (part_as {before = record c.args.pass.now { looks = c.label_text.new.looks }} c.substitution_definition.ensures nodes refl refl (omega arith) (omega arith)) c.in-Substitution.is refl refl
-    (omega (arith, c.label_text.ensures.looks)) (omega (arith, c.requires.later, c.label_text.ensures.looks))
+    form_read {few = 18 * (c.args.end - l.at)} (part_as {before = record c.args.pass.now { looks = c.line.new.looks }} c.substitution_definition.ensures nodes refl refl (omega arith) (omega arith)) c.in-Substitution.is refl refl
+    (omega (arith, c.line.ensures.looks)) (omega (arith, c.requires.later, c.line.ensures.looks))

@@ -26,7 +26,7 @@ returns c =
       read = part_comes B (Element node) body (λ ns. filled node ns ∷ []) n c.go_to.ensures.moved (c.go_to.ensures.there c.requires.later) (λ ns. refl)
           ∙ ap (λ e. reads_with l B (noted (within_at l.depth) B e body) body.to n)
           (made
-          ∙ ap (λ label. node_by_label_kind c.args.kind label c.number_at-line.result) c.in_ok-label.ensures.text
+          ∙ ap (λ label. node_by_label_kind c.args.kind label c.number_at-line.result) (c.in_ok-label.ensures ∙ ap (λ t. excerpt t c.args.label) c.line.ensures.text)
           ∙ ap (node_by_label_kind c.args.kind (excerpt (first_text (drop l.at B)) c.args.label)) c.number_at-line.ensures);
-      paid = opens_after (opens_part B node body c.label_text.new.looks c.go_to.ensures.moved (c.go_to.ensures.there c.requires.later)) (omega (arith, c.label_text.ensures.looks)) (omega (arith, c.label_text.ensures.looks));
+      paid = opens_after (opens_part B node body c.line.new.looks c.go_to.ensures.moved (c.go_to.ensures.there c.requires.later)) (omega (arith, c.line.ensures.looks)) (omega (arith, c.line.ensures.looks));
     }
