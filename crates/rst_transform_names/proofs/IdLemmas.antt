@@ -1,5 +1,5 @@
 -- Ids, as they are given and taken.
-use Rattle.std.proofs.Common.{◌≡◌, ◌≢◌, ℕ, zero, suc, ◌+◌, ◌^◌, ◌<◌, Bool, true, false, not, ◌||◌, List, [], ◌∷◌, length, Option, Some, None, option_map, unwrap_or, nat_eq, nat_le, nat_lt, map, ◌-◌, bytes_eq, Result, Ok, Err, ◌≤◌, refl, sym, ap, ap₂, subst, ◌∙◌, arith, string_bytes, string_cmp, nat_cmp, encode_utf8_all, ⊎_elim, ltb-true, le-leb, leb-true, leb-false, ltb-false, true≢false, Global}
+use Rattle.std.proofs.Common.{◌≡◌, ◌≢◌, ℕ, zero, suc, ◌+◌, ◌^◌, ◌<◌, Bool, true, false, not, ◌||◌, List, [], ◌∷◌, length, Option, Some, None, option_map, unwrap_or, nat_eq, nat_le, nat_lt, map, ◌-◌, bytes_eq, Result, Ok, Err, ◌≤◌, refl, sym, ap, ap₂, subst, ◌∙◌, arith, string_bytes, string_cmp, nat_cmp, ⊎_elim, ltb-true, le-leb, leb-true, leb-false, ltb-false, true≢false, Global}
 use Rattle.std.specs.Prelude.{if◌then◌else◌}
 use Rattle.std.specs.declared.string.String.{String}
 use Rattle.std.specs.BTreeMap.{BTreeMap, get_by_text, is_at}
@@ -10,9 +10,7 @@ use Rattle.std.proofs.lemmas.List.{length-map}
 use Rattle.std.proofs.lemmas.Map.Steps.{le-length_from_below}
 use Rattle.std.proofs.lemmas.Map.Text.{btree_set_updates_text, is_eq-slice_cmp}
 use Rattle.std.proofs.lemmas.Bool.{lt-leb, eq-eqb, cases_Bool, cond_both, cond-true, cond-false, false_from_ne_true, or_parts, or_right}
-use Rattle.std.proofs.lemmas.Str.{encodes-chars, IsUtf8-string_bytes}
 use Rattle.std.specs.Cmp.Lexicographic.{bytes_decides}
-use Rattle.rst_text.specs.Text.{chars_of}
 use Rattle.rst_text.specs.Names.{identifier}
 use Rattle.std.specs.declared.alloc.AllocError.{AllocError}
 use Rattle.rst_tree.specs.declared.tag.Tag.{Tag}

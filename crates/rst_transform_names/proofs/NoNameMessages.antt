@@ -11,12 +11,12 @@ use Rattle.rst_tree.specs.declared.key.Key.TheVariants.{Serial}
 use Rattle.rst_tree.specs.declared.node.Node.{Node}
 use Rattle.rst_tree.specs.declared.node.Node.TheVariants.{Element, Text}
 use Rattle.rst_tree.specs.declared.tag.Tag.{Tag}
+use Rattle.rst_tree.specs.Attributes.{as_number, value_of}
 use Rattle.rst_tree.specs.Forest.{Forest, bare, element, words}
-use Rattle.rst_tree.specs.Nodes.{nodes_of}
+use Rattle.rst_tree.specs.Nodes.{forest_of, nodes_of}
 use Rattle.rst_tree.proofs.Changes.{forest_of-nodes_of}
 use Rattle.rst_transform_names.specs.declared.queue.Queued.TheVariants.{Present, New}
-use Rattle.rst_transform_names.specs.Gathered.{number_at}
-use Rattle.rst_transform_names.specs.NameMessages.{after_next, before_next, beginning, counted, filled, first_queue, goes_out, is_inline, is_section, message_on, taken, takes_in, with_due, with_filled_element, with_messages, with_name_messages, with_own, Filled, Queue}
+use Rattle.rst_transform_names.specs.NameMessages.{after_next, before_next, beginning, counted, filled, first_queue, goes_out, is_inline, is_section, message_on, taken, takes_in, with_due, with_filled_element, with_name_messages, with_own, Filled, Queue}
 
 either_none : {X : Type 0} (b : Bool) → ◌≡◌ {A = List X} (if b then [] else []) []
 either_none true = refl
@@ -53,10 +53,6 @@ record Quiet (nodes : List Node) (f : Filled) : Type 0 where
   before : f.before ≡ []
   queue : ArePresent f.queue
 
--- no message on any name
-abbrev none : List Attr → List Node
-none a = []
-
 beginning-none : (t : Tag) (a : List Attr) → Quiet [] (beginning t a)
 beginning-none t a = record { same = refl; before = refl; queue = cond_both (is_section t) [] (replicate (counted a) Present) ArePresent (λ _. tt) (λ _. present-replicate (counted a)) }
 
@@ -85,24 +81,20 @@ element-none p t a l c nodes inside f i q = record {
   queue = present-append f.queue (if goes_out p t a then inside.queue else []) q.queue (cond_both (goes_out p t a) inside.queue [] ArePresent (λ _. i.queue) (λ _. tt));
 }
 
-filled-none : (p : Tag) (first due : Queue) (nodes : List Node) (f : Filled) (c : Forest) → ArePresent first → ArePresent due → Quiet nodes f → Quiet (nodes ++ nodes_of c) (filled none p first due f c)
+filled-none : (p : Tag) (first due : Queue) (nodes : List Node) (f : Filled) (c : Forest) → ArePresent first → ArePresent due → Quiet nodes f → Quiet (nodes ++ nodes_of c) (filled (λ a. []) p first due f c)
 filled-none p first due nodes f bare o d q = rw append-nil (due-none first due nodes f o d q)
 filled-none p first due nodes f (words t r) o d q =
     let rest = filled-none p first due (nodes ++ Text t ∷ []) (record f { nodes = f.nodes ++ Text t ∷ [] }) r o d (record { same = ap (λ ns. ns ++ Text t ∷ []) q.same; before = q.before; queue = q.queue }) in
     rw append_assoc at rest
 filled-none p first due nodes f (element t a c l r) o d q =
     let begun = first_queue t a [] f.queue in
-    let inside = with_own t a [] (filled none t begun [] (beginning t a) c) in
-    let i : Quiet (nodes_of c) inside = own-none t a (nodes_of c) (filled none t begun [] (beginning t a) c) (filled-none t begun [] [] (beginning t a) c (first-none t a f.queue q.queue) tt (beginning-none t a)) in
+    let inside = with_own t a [] (filled (λ a. []) t begun [] (beginning t a) c) in
+    let i : Quiet (nodes_of c) inside = own-none t a (nodes_of c) (filled (λ a. []) t begun [] (beginning t a) c) (filled-none t begun [] [] (beginning t a) c (first-none t a f.queue q.queue) tt (beginning-none t a)) in
     let f' = taken t (with_due first due f) in
     let after : ArePresent (after_next due ++ (if goes_out p t a then [] else inside.queue)) = present-append (after_next due) (if goes_out p t a then [] else inside.queue) (present-after due d) (cond_both (goes_out p t a) [] inside.queue ArePresent (λ _. tt) (λ _. i.queue)) in
     let rest = filled-none p (after_next first) (after_next due ++ (if goes_out p t a then [] else inside.queue)) (nodes ++ Element t a c l ∷ []) (with_filled_element p t a l inside f') r (present-after first o) after
     (element-none p t a l c nodes inside f' i (taken-none t nodes (with_due first due f) (due-none first due nodes f o d q))) in
     rw append_assoc at rest
-
-with_none : (document : Node) → with_messages none document ≡ document
-with_none (Text t) = refl
-with_none (Element t a c l) = rw ((filled-none t [] [] [] (beginning t a) c tt tt (beginning-none t a)).same, forest_of-nodes_of c) refl
 
 -- no message is that on the name of an element
 pub none_there : (messages : List (Option Node)) → list_any is_some messages ≡ false → (number : ℕ) → message_on messages number ≡ None
@@ -116,4 +108,7 @@ none_numbered None = refl
 none_numbered (Some n) = refl
 
 pub without_name_messages : (document : Node) → with_name_messages (λ number. None) document ≡ document
-without_name_messages document = ap (λ own. with_messages own document) (fun_ext (λ a. none_numbered (number_at Serial a))) ∙ with_none document
+without_name_messages (Text t) = refl
+without_name_messages (Element t a c l) =
+    ap (λ own. Element t a (forest_of (filled own t [] [] (beginning t a) c).nodes) l) (fun_ext (λ b. none_numbered (as_number (value_of Serial b))))
+    ∙ rw ((filled-none t [] [] [] (beginning t a) c tt tt (beginning-none t a)).same, forest_of-nodes_of c) refl

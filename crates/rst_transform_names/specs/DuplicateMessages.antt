@@ -11,7 +11,7 @@ use Rattle.rst_tree.specs.Walk.{Item}
 use Rattle.rst_transform_names.specs.declared.names.Strength.{Strength}
 use Rattle.rst_transform_names.specs.declared.names.Strength.TheVariants.{Implicit, Explicit}
 use Rattle.rst_transform_names.specs.declared.rulings.DuplicateMessage.{DuplicateMessage}
-use Rattle.rst_transform_names.specs.Gathered.{own_name}
+use Rattle.rst_transform_names.specs.Names.{own_name}
 
 -- the message with some words and an element's name
 abbrev pub name_message : Level → List ℕ → Item → Node

@@ -92,11 +92,6 @@ TakesId id old new = (other : List ℕ) → is_taken new other ≡ (if bytes_eq 
 abbrev pub TakesNone : Ids → Ids → Type 0
 TakesNone old new = (other : List ℕ) → is_taken new other ≡ is_taken old other
 
--- an id that a name gave is taken, and the result is whether it was free; or memory ran out and none is
-abbrev pub Tries : List ℕ → Ids → Ids → Result Bool AllocError → Type 0
-Tries id old new (Ok was_free) = (is_taken old id ≡ (if was_free then false else true)) × TakesId id old new
-Tries id old new (Err refused) = TakesNone old new
-
 -- the element's id is given and taken, or memory ran out and none is
 abbrev pub GivesId : Tag → List ℕ → Ids → Ids → Result (List ℕ) AllocError → Type 0
 GivesId tag name old new (Ok id) = (taken : List (List ℕ)) → AreTaken old taken → (id ≡ id_for taken tag name) × AreTaken new (id ∷ taken)
@@ -111,8 +106,3 @@ abbrev pub GivesNumber : List ℕ → Ids → Ids → Result ℕ AllocError → 
 GivesNumber base old new (Ok number) =
     (taken : List (List ℕ)) → AreTaken old taken → (number ≡ least_free taken base) × AreTaken new (id_with_number base number ∷ taken)
 GivesNumber base old new (Err refused) = TakesNone old new
-
--- an id is taken, or memory ran out and none is
-abbrev pub TakesOrFails : {A : Type 0} → List ℕ → Ids → Ids → Result A AllocError → Type 0
-TakesOrFails id old new (Ok done) = TakesId id old new
-TakesOrFails id old new (Err refused) = TakesNone old new

@@ -1,4 +1,3 @@
-pub mod Gathered
 pub mod Ids
 pub mod Names
 pub mod DuplicateMessages

@@ -8,12 +8,11 @@ use Rattle.rst_tree.specs.declared.node.Node.{Node}
 use Rattle.rst_tree.specs.declared.node.Node.TheVariants.{Element, Text}
 use Rattle.rst_tree.specs.declared.tag.Tag.{Tag}
 use Rattle.rst_tree.specs.declared.tag.Tag.TheVariants.{Attribution, BlockQuote, Caption, Classifier, Definition, DefinitionListItem, Field, FieldBody, FieldName, Figure, Line, LineBlock, Reference, Section, SubstitutionDefinition, Term}
-use Rattle.rst_tree.specs.Attributes.{value_of}
+use Rattle.rst_tree.specs.Attributes.{as_number, value_of}
 use Rattle.rst_tree.specs.Forest.{Forest, bare, element, words}
 use Rattle.rst_tree.specs.Nodes.{forest_of}
 use Rattle.rst_transform_names.specs.declared.queue.Queued.{Queued}
 use Rattle.rst_transform_names.specs.declared.queue.Queued.TheVariants.{Present, New}
-use Rattle.rst_transform_names.specs.Gathered.{number_at}
 
 -- ---- what follows a text
 
@@ -72,7 +71,7 @@ is_passed_over _ = false
 -- how many nodes belong to an element's text, by its attributes: the text's own messages, which follow it; in a section the nodes between title
 -- and content
 abbrev pub counted : List Attr → ℕ
-counted attrs = unwrap_or (number_at TextMessages attrs) 0
+counted attrs = unwrap_or (as_number (value_of TextMessages attrs)) 0
 
 -- The queue with which its nodes begin: in a section the title and the counted nodes come before the message on its name; a definition or a field body
 -- takes in the queue that went out of the nodes before it.
@@ -124,11 +123,6 @@ module _ (own : List Attr → List Node) where
       let inside = with_own t a (own a) (filled t (first_queue t a (own a) f.queue) [] (beginning t a) c) in
       filled p (after_next first) (after_next due ++ (if goes_out p t a then [] else inside.queue)) (with_filled_element p t a l inside (taken t (with_due first due f))) r
 
-  -- the document with the messages on the names in it
-  abbrev pub with_messages : Node → Node
-  with_messages (Text t) = Text t
-  with_messages (Element t a c l) = Element t a (forest_of (filled t [] [] (beginning t a) c).nodes) l
-
 -- ---- the messages, by the numbers of their elements
 
 -- the message on the name of the element with a number, if there is one
@@ -137,8 +131,9 @@ message_on messages number = slice_index_or messages number None
 
 -- the message on the name of an element with some attributes, if there is one
 abbrev pub own_message : (ℕ → Option Node) → List Attr → List Node
-own_message messages attrs = option_to_list (option_and_then messages (number_at Serial attrs))
+own_message messages attrs = option_to_list (option_and_then messages (as_number (value_of Serial attrs)))
 
 -- the document with these messages
 abbrev pub with_name_messages : (ℕ → Option Node) → Node → Node
-with_name_messages messages document = with_messages (own_message messages) document
+with_name_messages messages (Text t) = Text t
+with_name_messages messages (Element t a c l) = Element t a (forest_of (filled (own_message messages) t [] [] (beginning t a) c).nodes) l

@@ -1,11 +1,18 @@
 -- Names and who holds them.
-use Rattle.std.specs.Prelude.{ℕ, List, Option, Some, None, if◌then◌else◌, ◌≡◌, Result, Ok, Err}
+use Rattle.std.specs.Prelude.{ℕ, List, [], Option, Some, None, unwrap_or, if◌then◌else◌, ◌≡◌, Result, Ok, Err}
 use Rattle.std.specs.BTreeMap.{get_by_text}
 use Rattle.std.specs.Str.{bytes_eq}
 use Rattle.std.specs.declared.alloc.AllocError.{AllocError}
+use Rattle.rst_tree.specs.declared.key.Key.TheVariants.{OwnName}
+use Rattle.rst_tree.specs.Attributes.{as_text, value_of}
+use Rattle.rst_tree.specs.Walk.{Item}
 use Rattle.rst_transform_names.specs.declared.names.NameEntry.{NameEntry}
 use Rattle.rst_transform_names.specs.declared.names.Holder.{Holder}
 use Rattle.rst_transform_names.specs.declared.names.Names.{Names}
+
+-- the name that an element was written with; the empty name is none
+abbrev pub own_name : Item → List ℕ
+own_name x = unwrap_or (as_text (value_of OwnName x.attrs)) []
 
 -- what is known of a name
 abbrev pub entry_named : Names → List ℕ → Option NameEntry

@@ -7,6 +7,7 @@ use Rattle.rst_tree.specs.declared.key.Key.TheVariants.{Message}
 use Rattle.rst_tree.specs.declared.node.Node.{Node}
 use Rattle.rst_tree.specs.declared.tag.Tag.{Tag}
 use Rattle.rst_tree.specs.declared.tag.Tag.TheVariants.{Problematic, SystemMessage, SubstitutionDefinition}
+use Rattle.rst_tree.specs.Attributes.{as_number, value_of}
 use Rattle.rst_tree.specs.Paths.{map_at}
 use Rattle.rst_tree.specs.TagNames.{hyphenated, tag_name}
 use Rattle.rst_tree.specs.Walk.{Item, node_items, walked_node}
@@ -17,11 +18,10 @@ use Rattle.rst_transform_names.specs.declared.names.NameEntry.{NameEntry}
 use Rattle.rst_transform_names.specs.declared.registration.Registered.{Registered}
 use Rattle.rst_transform_names.specs.declared.registry.Registry.{Registry}
 use Rattle.rst_transform_names.specs.declared.registry.Standing.{Standing}
-use Rattle.rst_transform_names.specs.Gathered.{number_at, own_name}
 use Rattle.rst_transform_names.specs.Ids.{id_for, least_free, id_with_number, AreTaken}
 use Rattle.rst_transform_names.specs.DuplicateMessages.{duplicate_definition, duplicate_name}
 use Rattle.rst_transform_names.specs.NameMessages.{message_on, with_name_messages}
-use Rattle.rst_transform_names.specs.Names.{with_entry, AreRegistered}
+use Rattle.rst_transform_names.specs.Names.{own_name, with_entry, AreRegistered}
 use Rattle.rst_transform_names.specs.Registry.{definer, known_by, losing, rule_named, standing}
 use Rattle.rst_transform_names.specs.Written.{given, left_after, problematic_id, with_given}
 
@@ -67,7 +67,7 @@ with_message_id new r =
     record r {
       ids = id_with_number base number ∷ r.ids;
       numbers = r.numbers ++ number ∷ [];
-      messages = with_message_changed (number_at Message new.attrs) (with_member new.tag number) r.messages;
+      messages = with_message_changed (as_number (value_of Message new.attrs)) (with_member new.tag number) r.messages;
     }
 
 -- of substitution definitions with one name the last has it

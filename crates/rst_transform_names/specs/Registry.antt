@@ -5,6 +5,7 @@ use Rattle.std.specs.Str.{bytes_eq}
 use Rattle.rst_tree.specs.declared.key.Key.TheVariants.{Refuri}
 use Rattle.rst_tree.specs.declared.tag.Tag.{Tag}
 use Rattle.rst_tree.specs.declared.tag.Tag.TheVariants.{Section}
+use Rattle.rst_tree.specs.Attributes.{as_text, value_of}
 use Rattle.rst_tree.specs.Paths.{map_at}
 use Rattle.rst_tree.specs.Walk.{Item}
 use Rattle.rst_tree_index.specs.Kinds.{is_target}
@@ -17,7 +18,6 @@ use Rattle.rst_transform_names.specs.declared.registry.Standing.{Standing}
 use Rattle.rst_transform_names.specs.declared.rulings.Now.{Now}
 use Rattle.rst_transform_names.specs.declared.rulings.Now.TheVariants.{Old, New, Nobody}
 use Rattle.rst_transform_names.specs.declared.rulings.Ruling.{Ruling}
-use Rattle.rst_transform_names.specs.Gathered.{text_attribute}
 use Rattle.rst_transform_names.specs.Names.{with_holder}
 use Rattle.rst_transform_names.specs.Rulings.{ruling_for}
 
@@ -34,7 +34,7 @@ is_same_text (Some a) (Some b) = bytes_eq a b
 
 -- where a target leads that has a URI
 abbrev pub target_uri : Item → Option (List ℕ)
-target_uri x = if is_target x.tag then text_attribute Refuri x.attrs else None
+target_uri x = if is_target x.tag then as_text (value_of Refuri x.attrs) else None
 
 -- the rule for the name of a new element, by what is known of the name; two targets may have one URI
 abbrev pub rule_by : Option NameEntry → Item → Ruling
@@ -57,13 +57,9 @@ losing (Element n) standings = map_at without_name n standings
 losing Lost standings = standings
 losing Unregistered standings = standings
 
--- nothing happens to a name
-abbrev pub no_rule : Ruling
-no_rule = record { now = Old; loser = Lost; new_loses = false; message = None }
-
--- the rule for a new element by the name it was written with; the empty name is none
+-- the rule for a new element by the name it was written with; the empty name is none, and nothing happens to it
 abbrev pub rule_named : List ℕ → Option NameEntry → Item → Ruling
-rule_named [] entry new = no_rule
+rule_named [] entry new = record { now = Old; loser = Lost; new_loses = false; message = None }
 rule_named (c ∷ cs) entry new = rule_by entry new
 
 abbrev pub standing : ℕ → Option (List ℕ) → Bool → Standing

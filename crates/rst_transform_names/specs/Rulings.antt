@@ -20,10 +20,6 @@ warning = Some (record { level = Warning; strength = Explicit })
 abbrev pub new_has_it : Ruling
 new_has_it = record { now = New; loser = Lost; new_loses = false; message = None }
 
--- a section has the name, and another element takes it
-abbrev pub new_takes_it : Holder → Ruling
-new_takes_it section = record { now = New; loser = section; new_loses = false; message = info Implicit }
-
 -- the element that has the name keeps it
 abbrev pub old_keeps_it : Strength → Ruling
 old_keeps_it strength = record { now = Old; loser = Lost; new_loses = true; message = info strength }
@@ -35,7 +31,7 @@ nobody_has_it loser message = record { now = Nobody; loser = loser; new_loses = 
 -- by who holds the name and how it was given, and how it is given now; `same`: two targets with the same URI
 unfoldable pub registered_ruling : Strength → Holder → Strength → Bool → Ruling
 registered_ruling Implicit Lost Explicit same = new_has_it
-registered_ruling Implicit holder Explicit same = new_takes_it holder
+registered_ruling Implicit holder Explicit same = record new_has_it { loser = holder; message = info Implicit }
 registered_ruling Explicit Lost Explicit same = nobody_has_it Lost warning
 registered_ruling Explicit holder Explicit same = if same then old_keeps_it Explicit else nobody_has_it holder warning
 registered_ruling Implicit holder Implicit same = nobody_has_it holder (info Implicit)

@@ -5,11 +5,10 @@ use Rattle.rst_tree.specs.declared.attrs.Value.TheVariants.{Number, Text as Word
 use Rattle.rst_tree.specs.declared.key.Key.TheVariants.{Backrefs, Ids, Message, Names, Dupnames, OwnName, Refid, Serial}
 use Rattle.rst_tree.specs.declared.tag.Tag.{Tag}
 use Rattle.rst_tree.specs.declared.tag.Tag.TheVariants.{Problematic, SystemMessage}
-use Rattle.rst_tree.specs.Attributes.{with_attr}
+use Rattle.rst_tree.specs.Attributes.{as_number, as_text, value_of, with_attr}
 use Rattle.rst_tree.specs.Walk.{Item, item}
 use Rattle.rst_transform_names.specs.declared.message_ids.MessageIds.{MessageIds}
 use Rattle.rst_transform_names.specs.declared.registry.Standing.{Standing}
-use Rattle.rst_transform_names.specs.Gathered.{number_at, text_attribute}
 
 -- the attributes with an element's id, if it has one
 abbrev pub with_id : Option (List ℕ) → List Attr → List Attr
@@ -24,7 +23,7 @@ with_name lost (Some (c ∷ cs)) attrs = with_attr (if lost then Dupnames else N
 
 -- with all that registration gave an element that may have a name: its number, its name and its id
 abbrev pub with_standing : Standing → List Attr → List Attr
-with_standing standing attrs = with_id standing.id (with_name standing.lost (text_attribute OwnName attrs) (with_attr Serial (Number standing.serial) attrs))
+with_standing standing attrs = with_id standing.id (with_name standing.lost (as_text (value_of OwnName attrs)) (with_attr Serial (Number standing.serial) attrs))
 
 -- the ids of problematics and of messages, by their numbers
 abbrev pub problematic_id : ℕ → List ℕ
@@ -35,7 +34,7 @@ message_id number = codes "system-message-" ++ decimal number
 
 -- what is known of the message whose number is in an element's attributes, if there is one
 abbrev pub message_ids_of : List MessageIds → List Attr → Option MessageIds
-message_ids_of messages attrs = option_and_then (slice_get messages) (number_at Message attrs)
+message_ids_of messages attrs = option_and_then (slice_get messages) (as_number (value_of Message attrs))
 
 -- the attributes of a problematic with the id of its message, if that is in the document
 abbrev pub with_refid : Option ℕ → List Attr → List Attr

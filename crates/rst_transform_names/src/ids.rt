@@ -1,8 +1,8 @@
 //! Ids.
-ghost use Rattle.std.specs.Prelude.{◌≡◌, ◌<◌, List, ℕ, false, MatchOption, None, Some, string_bytes, nat_le, slice_index, ◌&&◌, IfOk};
+ghost use Rattle.std.specs.Prelude.{◌≡◌, List, ℕ, false, true, if◌then◌else◌, MatchOption, MatchResult, None, Some, string_bytes, nat_le, slice_index, ◌&&◌, IfOk};
 ghost use Rattle.rst_text.specs.Names.{identifier};
 ghost use Rattle.rst_tree.specs.TagNames.{hyphenated, tag_name};
-ghost use Rattle.rst_transform_names.specs.Ids.{is_taken, last_number, GivesId, GivesNumber, GivesNumbered, IsLeastFree, TakesOrFails, Tries};
+ghost use Rattle.rst_transform_names.specs.Ids.{is_taken, last_number, GivesId, GivesNumber, GivesNumbered, IsLeastFree, TakesId, TakesNone};
 ghost use Rattle.rst_transform_names.specs.Ids as spec;
 ghost use Rattle.rst_transform_names.specs.Written as written;
 
@@ -79,7 +79,7 @@ impl Ids {
 
     /// Takes an id that a name gave, unless it is taken, and returns whether it was free.
     fn take(&mut self, id: String) -> Result<bool>
-        ensures { Tries (string_bytes id) self.old self.new result }
+        ensures { MatchResult result (λ was_free. (is_taken self.old (string_bytes id) ≡ (if was_free then false else true)) × TakesId (string_bytes id) self.old self.new) (λ refused. TakesNone self.old self.new) }
     {
         match id_number(id.as_str()) {
             None => Ok(self.named.insert(id)?),
@@ -130,7 +130,7 @@ impl Ids {
     /// Takes the id of a text and the least number that makes it free.
     fn use_up(&mut self, alloc: Global, base: &str, number: u64) -> Result<()>
         requires { IsLeastFree (is_taken self.now) base.now number }
-        ensures { TakesOrFails (spec.id_with_number base.now number) self.old self.new result }
+        ensures { MatchResult result (λ done. TakesId (spec.id_with_number base.now number) self.old self.new) (λ refused. TakesNone self.old self.new) }
     {
         let Ok(number) = u32::try_from(number) else {
             let id = String::from_str(alloc, id_with_number(alloc, base, number)?.as_str())?;

@@ -9,13 +9,6 @@ use super::queue::{Queue, Queued, push_present, put_next};
 use rst_tree::{Attrs, Children, Key, Node, Result, Tag};
 use std::alloc::Global;
 
-/// Whether messages on names in an element come before it.
-fn is_passed_over(tag: Tag) -> bool
-    ensures { result ≡ spec.is_passed_over tag }
-{
-    matches!(tag, Tag::Reference | Tag::SubstitutionDefinition)
-}
-
 /// Whether the queue of an element's text goes out of the element around it.
 fn goes_out(parent: Tag, tag: Tag, attrs: &Attrs) -> bool
     ensures { result ≡ spec.goes_out parent tag attrs.now }
@@ -29,13 +22,6 @@ fn goes_out(parent: Tag, tag: Tag, attrs: &Attrs) -> bool
                 | (Tag::DefinitionListItem, Tag::Term | Tag::Classifier)
                 | (Tag::Field, Tag::FieldName)
         )
-}
-
-/// How many nodes belong to an element's text.
-fn counted(attrs: &Attrs) -> u64
-    ensures { result ≡ spec.counted attrs.now }
-{
-    attrs.number(Key::TextMessages).unwrap_or(0)
 }
 
 /// The message on the name of an element with these attributes, if there is one.
@@ -67,7 +53,7 @@ pub fn put_first(
         Tag::Definition | Tag::FieldBody => first.append(out)?,
         Tag::Section => {
             first.push_back(Queued::Present)?;
-            push_present(first, counted(attrs))?;
+            push_present(first, attrs)?;
             if let Some(own) = own_message(alloc, attrs, messages)? {
                 first.push_back(Queued::New(own))?;
             }
@@ -96,7 +82,7 @@ impl Inside {
     {
         let mut queue = Queue::new(alloc);
         if !matches!(tag, Tag::Section) {
-            push_present(&mut queue, counted(attrs))?;
+            push_present(&mut queue, attrs)?;
         }
         Ok(Inside {
             nodes: Vec::new(alloc),
@@ -154,7 +140,7 @@ impl Inside {
         ensures made { IfOk result (λ _. seen self.new ≡ spec.with_filled_element parent tag attrs line (seen inside) (seen self.old)) }
         ensures due { IfOk result (λ _. due.new.items ≡ due.old.items ++ (if spec.goes_out parent tag attrs then [] else inside.queue.items)) }
     {
-        if is_passed_over(parent) {
+        if matches!(parent, Tag::Reference | Tag::SubstitutionDefinition) {
             self.before.append(&mut inside.before)?;
         } else {
             self.nodes.append(&mut inside.before)?;

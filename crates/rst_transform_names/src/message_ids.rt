@@ -1,8 +1,8 @@
 //! Messages and their problematics.
 ghost use Rattle.std.specs.Prelude.{◌≡◌, ◌++◌, [], ◌∷◌, None, replicate, IfOk};
 ghost use Rattle.rst_tree.specs.declared.key.Key.TheVariants.{Message};
+ghost use Rattle.rst_tree.specs.Attributes.{as_number, value_of};
 ghost use Rattle.rst_tree_index.specs.Registered.{item_of};
-ghost use Rattle.rst_transform_names.specs.Gathered.{number_at};
 ghost use Rattle.rst_transform_names.specs.Registering.{with_member, with_message_changed};
 
 use super::ids::problematic_id;
@@ -50,7 +50,7 @@ impl KnownMessages {
     /// Adds one more message or problematic, whose id has a number.
     pub fn add(&mut self, alloc: Global, new: Element<'_>, number: u64) -> Result<()>
         ensures numbers { IfOk result (λ _. self.new.numbers.items ≡ self.old.numbers.items ++ number ∷ []) }
-        ensures messages { IfOk result (λ _. self.new.messages.items ≡ with_message_changed (number_at Message (item_of new.entry).attrs) (with_member (item_of new.entry).tag number) self.old.messages.items) }
+        ensures messages { IfOk result (λ _. self.new.messages.items ≡ with_message_changed (as_number (value_of Message (item_of new.entry).attrs)) (with_member (item_of new.entry).tag number) self.old.messages.items) }
     {
         self.numbers.push(number)?;
         let Some(message) = new.attrs.number(Key::Message) else {

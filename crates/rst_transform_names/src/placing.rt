@@ -1,6 +1,5 @@
 //! The places of the messages on equal names.
-ghost use Rattle.std.specs.Prelude.{◌≡◌, [], is_some, IfOk};
-ghost use Rattle.std.specs.List.{list_any};
+ghost use Rattle.std.specs.Prelude.{◌≡◌, [], IfOk};
 ghost use Rattle.rst_transform_names.specs.NameMessages as spec;
 ghost use Rattle.rst_transform_names.specs.NameMessages.{message_on};
 ghost use Rattle.rst_transform_names.specs.PlacingMessages.{seen};
@@ -9,13 +8,6 @@ use super::inside::{Inside, put_first};
 use super::queue::{Queue, put_next};
 use rst_tree::{Children, Node, Result, Tag};
 use std::alloc::Global;
-
-/// Whether there is a message.
-fn is_any(messages: &[Option<Node>]) -> bool
-    ensures { result ≡ list_any is_some messages.now }
-{
-    messages.iter().any(|message| message.is_some())
-}
 
 /// Goes through the nodes of an element of a kind, which begin with a queue, and puts the messages on names there.
 // What happens at an element is in functions of its own: a call of this one takes little of the stack.
@@ -66,7 +58,7 @@ fn fill(
 pub fn place_name_messages(alloc: Global, document: Node, messages: &[Option<Node>]) -> Result<Node>
     ensures { IfOk result (λ placed. placed ≡ spec.with_name_messages (message_on messages.now) document) }
 {
-    if !is_any(messages) {
+    if !messages.iter().any(|message| message.is_some()) {
         return Ok(document);
     }
     match document {

@@ -3,7 +3,7 @@ ghost use Rattle.std.specs.Prelude.{◌≡◌, ◌++◌, replicate, IfOk};
 ghost use Rattle.rst_transform_names.specs.NameMessages as spec;
 ghost use Rattle.rst_transform_names.specs.declared.queue.Queued.TheVariants.{Present};
 
-use rst_tree::{Node, Result};
+use rst_tree::{Attrs, Key, Node, Result};
 use std::collections::VecDeque;
 
 /// A message that follows a text.
@@ -33,11 +33,12 @@ pub fn put_next(queue: &mut Queue, nodes: &mut Vec<Node>) -> Result<()>
     Ok(())
 }
 
-/// Puts a number of a text's own messages at the end of a queue.
+/// Puts the own messages of the text of an element with these attributes at the end of a queue.
 #[inline(never)]
-pub fn push_present(queue: &mut Queue, count: u64) -> Result<()>
-    ensures { IfOk result (λ _. queue.new.items ≡ queue.old.items ++ replicate count Present) }
+pub fn push_present(queue: &mut Queue, attrs: &Attrs) -> Result<()>
+    ensures { IfOk result (λ _. queue.new.items ≡ queue.old.items ++ replicate (spec.counted attrs.now) Present) }
 {
+    let count = attrs.number(Key::TextMessages).unwrap_or(0);
     for _done in 0..count {
         queue.push_back(Queued::Present)?;
     }

@@ -1,7 +1,7 @@
 //! What registration has to know of the elements.
 ghost use Rattle.std.specs.Prelude.{◌≡◌};
 ghost use Rattle.rst_tree_index.specs.Registered.{item_of};
-ghost use Rattle.rst_transform_names.specs.Gathered.{own_name};
+ghost use Rattle.rst_transform_names.specs.Names.{own_name};
 
 use rst_tree::Key;
 use rst_tree_index::Element;
@@ -10,8 +10,6 @@ use rst_tree_index::Element;
 pub fn own_name<'a>(element: Element<'a>) -> &'a str
     ensures { result.now ≡ own_name (item_of element.entry) }
 {
-    match element.attrs.text(Key::OwnName) {
-        Some(name) => name.as_str(),
-        None => "",
-    }
+    let name = element.attrs.text(Key::OwnName);
+    name.map_or("", |name| name.as_str())
 }

@@ -1,12 +1,12 @@
 //! Names and ids, given one element after the other.
-ghost use Rattle.std.specs.Prelude.{◌≡◌, length, map, IfOk};
+ghost use Rattle.std.specs.Prelude.{◌≡◌, map, IfOk};
 ghost use Rattle.rst_tree.specs.PrintedAttributes.{given_source};
 ghost use Rattle.rst_tree_index.specs.Registered.{item_of};
 ghost use Rattle.rst_transform_names.specs.DuplicateMessages.{duplicate_definition, duplicate_name};
-ghost use Rattle.rst_transform_names.specs.Gathered as spec;
+ghost use Rattle.rst_transform_names.specs.Names as spec;
 ghost use Rattle.rst_transform_names.specs.Names.{entry_named, Knows};
 ghost use Rattle.rst_transform_names.specs.Registering.{all_registered, nothing_known, with_definition, with_element, with_named, Holds, Makes};
-ghost use Rattle.rst_transform_names.specs.Registry.{strength_of, target_uri, known_by, losing, rule_named, definer};
+ghost use Rattle.rst_transform_names.specs.Registry.{strength_of, target_uri, known_by, losing, rule_named};
 
 use super::duplicate_messages::{duplicate_definition, duplicate_name};
 use super::ids::Ids;
@@ -79,18 +79,11 @@ impl Registry {
         }
     }
 
-    /// The number of the element that is registered.
-    fn serial(&self) -> u64
-        ensures { result ≡ length self.now.standings.items }
-    {
-        self.standings.len() as u64
-    }
-
     /// Gives an element its id, and its name if it has one.
     fn name(&mut self, alloc: Global, new: Element<'_>) -> Result<()>
         ensures { IfOk result (λ _. Makes (with_named (item_of new.entry)) self.old self.new) }
     {
-        let serial = self.serial();
+        let serial = self.standings.len() as u64;
         let name = own_name(new);
         let id = self.ids.give(alloc, new.tag, name)?;
         let ruling = ruling_on(&self.names, name, new);
@@ -113,10 +106,11 @@ impl Registry {
     fn define(&mut self, alloc: Global, new: Element<'_>) -> Result<()>
         ensures { IfOk result (λ _. Makes (with_definition (item_of new.entry)) self.old self.new) }
     {
-        let serial = self.serial();
+        let serial = self.standings.len() as u64;
         let name = String::from_str(alloc, own_name(new))?;
         let before = self.definitions.insert(name, serial)?;
-        lose(&mut self.standings, definer(before));
+        let holder = before.map_or(Holder::Nobody, |serial| Holder::Element(serial));
+        lose(&mut self.standings, holder);
         let message = match before {
             Some(_) => Some(duplicate_definition(alloc, new)?),
             None => None,
@@ -128,16 +122,6 @@ impl Registry {
             lost: false,
         })?;
         Ok(())
-    }
-}
-
-/// The substitution definition that had a name.
-fn definer(before: Option<u64>) -> Holder
-    ensures { result ≡ definer before }
-{
-    match before {
-        Some(serial) => Holder::Element(serial),
-        None => Holder::Nobody,
     }
 }
 
@@ -210,10 +194,9 @@ fn lose(standings: &mut [Standing], holder: Holder)
 fn strength_of(tag: Tag) -> Strength
     ensures { result ≡ strength_of tag }
 {
-    if matches!(tag, Tag::Section) {
-        Strength::Implicit
-    } else {
-        Strength::Explicit
+    match tag {
+        Tag::Section => Strength::Implicit,
+        _ => Strength::Explicit,
     }
 }
 
@@ -231,10 +214,7 @@ fn target_uri<'a>(element: Element<'a>) -> Option<&'a Text>
 pub fn copied_text(text: Option<&Text>) -> Result<Option<Text>>
     ensures { IfOk result (λ copy. copy ≡ given_source text.entry) }
 {
-    match text {
-        Some(text) => Ok(Some(text.copy()?)),
-        None => Ok(None),
-    }
+    text.map(|text| text.copy()).transpose()
 }
 
 /// Registers elements, in preorder, among which `messages` numbers were given to messages.

@@ -56,9 +56,7 @@ pub const NO_RULING: Ruling = Ruling {
 /// No element had the name, or all that had it were sections that lost it: the new one has it.
 const NEW_HAS_IT: Ruling = Ruling {
     now: Now::New,
-    loser: Holder::Nobody,
-    new_loses: false,
-    message: None,
+    ..NO_RULING
 };
 
 /// The element that has the name keeps it; an INFO reports that.
@@ -66,13 +64,12 @@ fn old_keeps_it(strength: Strength) -> Ruling
     ensures { result ≡ spec.old_keeps_it strength }
 {
     Ruling {
-        now: Now::Old,
-        loser: Holder::Nobody,
         new_loses: true,
         message: Some(DuplicateMessage {
             level: Level::Info,
             strength,
         }),
+        ..NO_RULING
     }
 }
 

@@ -1,6 +1,6 @@
 //! The attributes that registration gives, written at the elements.
 ghost use Rattle.std.specs.Prelude.{◌≡◌, MatchOption, None, Some, IfOk};
-ghost use Rattle.rst_transform_names.specs.Written.{given, with_id, with_name, with_standing, message_ids_of, with_problematic, with_refid, with_message, with_backrefs, left_after, with_given};
+ghost use Rattle.rst_transform_names.specs.Written.{given, with_id, with_standing, message_ids_of, with_problematic, with_refid, with_message, with_backrefs, left_after, with_given};
 
 use super::ids::{message_id, problematic_id};
 use super::message_ids::{KnownMessages, MessageIds};
@@ -20,20 +20,8 @@ fn write_id(alloc: Global, attrs: &mut Attrs, id: Option<Text>) -> Result<()>
     }
 }
 
-/// Writes an element's name into attributes, if it has one, as a duplicate one where the element lost it.
-fn write_name(alloc: Global, attrs: &mut Attrs, lost: bool, name: Option<Text>) -> Result<()>
-    ensures { IfOk result (λ _. attrs.new ≡ with_name lost name attrs.old) }
-{
-    match name {
-        Some(name) if !name.as_bytes().is_empty() => {
-            let key = if lost { Key::Dupnames } else { Key::Names };
-            attrs.set(key, Value::List(Texts::lone(alloc, name)))
-        }
-        _ => Ok(()),
-    }
-}
-
-/// Writes into the attributes of an element what registration gave it.
+/// Writes into the attributes of an element what registration gave it: its number, its name, if it has one, as a duplicate one where the element
+/// lost it, and its id.
 fn write(alloc: Global, attrs: &mut Attrs, standing: Standing) -> Result<()>
     ensures { IfOk result (λ _. attrs.new ≡ with_standing standing attrs.old) }
 {
@@ -41,7 +29,12 @@ fn write(alloc: Global, attrs: &mut Attrs, standing: Standing) -> Result<()>
     attrs.reserve(if name.is_some() { 3 } else { 2 })?;
     let Standing { serial, id, lost } = standing;
     attrs.set(Key::Serial, Value::Number(serial))?;
-    write_name(alloc, attrs, lost, name)?;
+    if let Some(name) = name {
+        if !name.as_bytes().is_empty() {
+            let key = if lost { Key::Dupnames } else { Key::Names };
+            attrs.set(key, Value::List(Texts::lone(alloc, name)))?;
+        }
+    }
     write_id(alloc, attrs, id)
 }
 
@@ -49,10 +42,7 @@ fn write(alloc: Global, attrs: &mut Attrs, standing: Standing) -> Result<()>
 fn message_ids_of<'a>(messages: &'a [MessageIds], attrs: &Attrs) -> Option<&'a MessageIds>
     ensures { MatchOption result (message_ids_of messages.now attrs.now ≡ None) (λ l. message_ids_of messages.now attrs.now ≡ Some l.now) }
 {
-    match attrs.number(Key::Message) {
-        Some(number) => messages.get(number as usize),
-        None => None,
-    }
+    messages.get(attrs.number(Key::Message)? as usize)
 }
 
 /// Writes the id of a problematic's message into its attributes, if the message has a number for that id.

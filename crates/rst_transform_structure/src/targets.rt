@@ -4,7 +4,7 @@ ghost use Rattle.rst_tree.specs.Walk.{item};
 ghost use Rattle.rst_transform_work.specs.States.{elements_of};
 ghost use Rattle.rst_transform_work.specs.Known.{Makes};
 ghost use Rattle.rst_transform_structure.specs.Passing.{paired_with_number, Passes};
-ghost use Rattle.rst_transform_structure.specs.Targets.{with_ids_and_names, got_by, handed, handed_by, hands_on, reached, referring, takers, takes_ids, with_first_refid, with_targets, TakesTaker};
+ghost use Rattle.rst_transform_structure.specs.Targets.{with_ids_and_names, got_by, handed, handed_by, hands_on, reached, referring, takers, takes_ids, with_targets, TakesTaker};
 
 use rst_transform_names::{Holder, Names};
 use rst_transform_work::{Context, Document, append, take_list};
@@ -149,10 +149,12 @@ impl Walking {
         let ids = take_list(self.alloc, attrs, Key::Ids);
         let names = take_list(self.alloc, attrs, Key::Names);
         attrs.remove(Key::Dupnames);
-        refer(attrs, ids.as_slice())?;
         add_backwards(&mut self.ids, ids.as_slice())?;
         add_backwards(&mut self.names, names.as_slice())?;
-        Ok(())
+        match ids.as_slice().first() {
+            Some(id) => attrs.set(Key::Refid, Value::Text(id.copy()?)),
+            None => Ok(()),
+        }
     }
 
     /// Gives the ids and names that were handed on to an element.
@@ -186,16 +188,6 @@ impl Visitor for Walking {
             return self.hand_on(attrs);
         }
         self.hand_over(attrs)
-    }
-}
-
-/// Writes a reference to the first of some ids, if there is one, into attributes.
-fn refer(attrs: &mut Attrs, ids: &[Text]) -> Result<()>
-    ensures { IfOk result (λ _. attrs.new ≡ with_first_refid ids.now attrs.old) }
-{
-    match ids.first() {
-        Some(id) => attrs.set(Key::Refid, Value::Text(id.copy()?)),
-        None => Ok(()),
     }
 }
 

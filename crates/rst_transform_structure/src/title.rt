@@ -1,6 +1,5 @@
 //! The title and the subtitle of a document.
 ghost use Rattle.std.specs.Prelude.{◌≡◌, None, IfOk};
-ghost use Rattle.std.specs.List.{list_all};
 ghost use Rattle.rst_tree.specs.declared.key.Key.TheVariants.{Names as OfNames};
 ghost use Rattle.rst_tree.specs.Nodes.{join_node};
 ghost use Rattle.rst_transform_work.specs.Known.{Makes};
@@ -8,7 +7,6 @@ ghost use Rattle.rst_transform_work.specs.Lists.{with_names, listed_texts};
 ghost use Rattle.rst_transform_work.specs.Made.{IsMadeOf};
 ghost use Rattle.rst_transform_structure.specs.Title.{lone_section, section_in, subtitle, subtitle_names, subtitled_by, title_attrs, title_names, titled_by, with_title};
 ghost use Rattle.rst_transform_structure.specs.Passing.{paired_with_number, Passes};
-ghost use Rattle.rst_transform_work.specs.Reading.{may_precede};
 
 use rst_transform_names::{Holder, Names};
 use rst_transform_work::{Context, Document, append_names, element, may_precede};
@@ -121,13 +119,6 @@ impl Section {
     }
 }
 
-/// Whether all of these nodes may.
-fn all_may_precede(nodes: &[Node]) -> bool
-    ensures { result ≡ list_all may_precede nodes.now }
-{
-    nodes.iter().all(|node| may_precede(node))
-}
-
 /// The lone section of some nodes, or the nodes back where they have none: the last node, if all before may precede it.
 fn lone_section(nodes: Children) -> Result<std::result::Result<Section, Children>>
     ensures { IfOk result (IsMadeOf nodes (lone_section nodes)) }
@@ -136,7 +127,7 @@ fn lone_section(nodes: Children) -> Result<std::result::Result<Section, Children
     let Some(last) = before.pop() else {
         return Ok(Err(Children::of(before)));
     };
-    if !all_may_precede(before.as_slice()) {
+    if !before.iter().all(|node| may_precede(node)) {
         before.push(last)?;
         return Ok(Err(Children::of(before)));
     }

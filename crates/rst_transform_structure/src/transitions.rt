@@ -1,6 +1,5 @@
 //! The places of transitions.
 ghost use Rattle.std.specs.Prelude.{◌≡◌, ◌≤◌, ◌++◌, length, Some, IfOk};
-ghost use Rattle.std.specs.List.{list_all};
 ghost use Rattle.rst_transform_work.specs.Reports.{KeepsRest};
 ghost use Rattle.rst_transform_work.specs.Known.{Makes};
 ghost use Rattle.rst_tree_index.specs.Kinds.{is_transition};
@@ -75,7 +74,7 @@ fn place_in(nodes: Children, ends: bool, context: &mut Context) -> Result<Vec<No
     let mut left = nodes.len();
     let list = nodes.into_list();
     // Most often none has to be moved.
-    if all_keep_places(list.as_slice()) {
+    if list.iter().all(|node| keeps_place(node)) {
         return Ok(list);
     }
     let mut placed = Vec::with_capacity(context.alloc, left)?;
@@ -209,13 +208,6 @@ fn keeps_place(node: &Node) -> bool
         Node::Element { tag, .. } => !is_section(*tag) && !is_transition(*tag),
         Node::Text(_) => true,
     }
-}
-
-/// Whether none of these nodes is a section or a transition.
-fn all_keep_places(nodes: &[Node]) -> bool
-    ensures { result ≡ list_all keeps_place nodes.now }
-{
-    nodes.iter().all(|node| keeps_place(node))
 }
 
 /// Whether an element of a kind is a section.

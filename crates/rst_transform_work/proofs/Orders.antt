@@ -1,9 +1,7 @@
 -- The attributes of problematics and messages are in order.
-use Rattle.std.proofs.Common.{◌≡◌, ℕ, true, List, refl, ap, ◌∙◌, sym}
+use Rattle.std.proofs.Common.{◌≡◌, ℕ, true, List, refl}
 use Rattle.std.specs.Prelude.{Option, Some, None}
 use Rattle.rst_tree.specs.Attributes.{are_keys_in_order}
-use Rattle.rst_tree.specs.declared.attrs.Attr.{Attr}
-use Rattle.rst_tree.specs.declared.note.Level.{Level}
 use Rattle.rst_transform_work.specs.Problematics.{problematic_attrs}
 use Rattle.rst_transform_work.specs.Reports.{report_attrs}
 use Rattle.rst_transform_work.specs.declared.report.Report.{Report}

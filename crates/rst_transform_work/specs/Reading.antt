@@ -1,16 +1,14 @@
 -- The values of an element's attributes.
-use Rattle.std.specs.Prelude.{ℕ, Bool, true, false, List, [], Option, Some, None, unwrap_or}
-use Rattle.rst_tree.specs.declared.tag.Tag.{Tag}
+use Rattle.std.specs.Prelude.{ℕ, Bool, true, false, List, [], Option, Some, unwrap_or}
 use Rattle.rst_tree.specs.declared.tag.Tag.TheVariants.{Comment, Target, SubstitutionDefinition, SystemMessage, Subtitle, Title}
 use Rattle.rst_tree.specs.declared.attrs.Attr.{Attr}
 use Rattle.rst_tree.specs.declared.attrs.Value.{Value}
-use Rattle.rst_tree.specs.declared.attrs.Value.TheVariants.{Text, Number, List as Listed}
+use Rattle.rst_tree.specs.declared.attrs.Value.TheVariants.{List as Listed}
 use Rattle.rst_tree.specs.declared.key.Key.{Key}
 use Rattle.rst_tree.specs.declared.key.Key.TheVariants.{Rawsource}
 use Rattle.rst_tree.specs.declared.node.Node.{Node}
 use Rattle.rst_tree.specs.declared.node.Node.TheVariants.{Element, Text as Words}
 use Rattle.rst_tree.specs.Attributes.{value_of, as_text, as_number}
-use Rattle.rst_tree.specs.Forest.{Forest, bare, words}
 use Rattle.rst_tree.specs.Paths.{node_value}
 
 -- the members of the list that a value is, or none

@@ -1,6 +1,6 @@
 //! The attributes of problematics.
-ghost use Rattle.std.specs.Prelude.{◌≡◌, ◌++◌, Some, IfOk};
-ghost use Rattle.rst_transform_work.specs.Problematics.{message_attrs, problematic_attrs};
+ghost use Rattle.std.specs.Prelude.{◌≡◌, Some, IfOk};
+ghost use Rattle.rst_transform_work.specs.Problematics.{problematic_attrs};
 
 use rst_tree::{Attrs, Entry, Key, Result, Text, Texts, Value};
 use std::alloc::Global;
@@ -37,19 +37,11 @@ impl ProblematicAttrs {
         list.reserve_exact(3)?;
         let id = Value::List(Texts::lone(alloc, self.id));
         list.push(Entry::new(Key::Ids, id))?;
-        push_message(&mut list, self.message)?;
+        if let Some((number, own)) = self.message {
+            list.push(Entry::new(Key::Message, Value::Number(number)))?;
+            list.push(Entry::new(Key::Refid, Value::Text(own)))?;
+        }
         *attrs = Attrs::of(list);
         Ok(())
     }
-}
-
-/// Adds the number and the id of a message, if there is one.
-fn push_message(list: &mut Vec<Entry>, message: Option<(u64, Text)>) -> Result<()>
-    ensures { IfOk result (λ _. list.new.items ≡ list.old.items ++ message_attrs message) }
-{
-    if let Some((number, own)) = message {
-        list.push(Entry::new(Key::Message, Value::Number(number)))?;
-        list.push(Entry::new(Key::Refid, Value::Text(own)))?;
-    }
-    Ok(())
 }

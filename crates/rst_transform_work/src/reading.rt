@@ -7,18 +7,11 @@ ghost use Rattle.rst_transform_work.specs.Reading.{text_of_attribute, number_of_
 use rst_tree::{Attrs, Key, Node, Result, Tag, Texts, ValueRef};
 use std::alloc::Global;
 
-/// The value of the attribute of a name, where it is a text.
-fn text<'a>(attrs: &'a Attrs, key: Key) -> Option<&'a str>
-    ensures { MatchOption result (as_text (value_of key attrs.now) ≡ None) (λ text. as_text (value_of key attrs.now) ≡ Some text.now) }
-{
-    Some(attrs.text(key)?.as_str())
-}
-
-/// The same; the empty text where there is none.
+/// The value of an attribute, where it is a text, or else the empty text.
 pub fn text_or_empty(attrs: &Attrs, key: Key) -> &str
     ensures { result.now ≡ unwrap_or (as_text (value_of key attrs.now)) [] }
 {
-    text(attrs, key).unwrap_or("")
+    attrs.text(key).map_or("", |text| text.as_str())
 }
 
 /// The value of an attribute of a node, where it is a text.
@@ -26,7 +19,7 @@ pub fn text_of_attribute<'a>(node: &'a Node, key: Key) -> Option<&'a str>
     ensures { MatchOption result (text_of_attribute key node.now ≡ None) (λ text. text_of_attribute key node.now ≡ Some text.now) }
 {
     match node {
-        Node::Element { attrs, .. } => text(attrs, key),
+        Node::Element { attrs, .. } => Some(attrs.text(key)?.as_str()),
         Node::Text(_) => None,
     }
 }

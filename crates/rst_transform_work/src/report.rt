@@ -1,8 +1,8 @@
 //! The messages of the transforms.
-ghost use Rattle.std.specs.Prelude.{◌≡◌, ◌++◌, List, ℕ, IfOk};
+ghost use Rattle.std.specs.Prelude.{◌≡◌, List, ℕ, IfOk};
 ghost use Rattle.rst_transform_names.specs.Ids.{AreTaken};
 ghost use Rattle.rst_transform_work.specs.Problematics.{own_id, referring_report, with_own_id};
-ghost use Rattle.rst_transform_work.specs.Reports.{id_attrs, report_attrs, report_node, report_note, without_ids};
+ghost use Rattle.rst_transform_work.specs.Reports.{report_attrs, report_node, report_note, without_ids};
 
 use rst_transform_names::Ids;
 use rst_tree::{Attrs, Entry, Key, Level, Node, Note, Result, Tag, Text, Texts, Value};
@@ -54,8 +54,9 @@ impl Report {
         let mut list = Vec::with_capacity(alloc, 4)?;
         let backrefs = mem::replace(&mut self.backrefs, Texts::new(alloc));
         list.push(Entry::new(Key::Backrefs, Value::List(backrefs)))?;
-        let id = mem::replace(&mut self.id, None);
-        push_id(alloc, &mut list, id)?;
+        if let Some(id) = mem::replace(&mut self.id, None) {
+            list.push(Entry::new(Key::Ids, Value::List(Texts::lone(alloc, id))))?;
+        }
         let level = Value::Number(u64::from(self.level.number()));
         list.push(Entry::new(Key::Level, level))?;
         list.push(Entry::new(Key::Message, Value::Number(self.number)))?;
@@ -87,14 +88,4 @@ impl Report {
         self.id = Some(own.copy()?);
         Ok(own)
     }
-}
-
-/// Adds the id of an element, if it has one.
-fn push_id(alloc: Global, list: &mut Vec<Entry>, id: Option<Text>) -> Result<()>
-    ensures { IfOk result (λ _. list.new.items ≡ list.old.items ++ id_attrs id) }
-{
-    if let Some(id) = id {
-        list.push(Entry::new(Key::Ids, Value::List(Texts::lone(alloc, id))))?;
-    }
-    Ok(())
 }

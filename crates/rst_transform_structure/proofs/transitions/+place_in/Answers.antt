@@ -1,7 +1,9 @@
-use Rattle.std.proofs.Common.{◌≡◌, ◌+◌, ◌≤◌, Some, true, false, rules, refl, ap, sym, ◌∙◌}
+use Rattle.std.proofs.Common.{◌≡◌, ◌+◌, ◌≤◌, Some, true, false, rules, tests, refl, ap, sym, ◌∙◌}
 use Rattle.std.specs.Prelude.{◌&&◌, ◌==◌}
 use Rattle.std.specs.List.{list_all}
 use Rattle.std.proofs.lemmas.List.{map-id}
+use Rattle.std.proofs.lemmas.Iterator.{YieldsList-from_slice}
+use Rattle.std.proofs.lemmas.Iterator.Search.{all_from_yields_List}
 use Rattle.std.proofs.lemmas.Iterator.Consumers.{YieldsList-turn, YieldsList-end}
 use Rattle.std.proofs.lemmas.Iterator.Adapters.{YieldsList-from_vec}
 use Rattle.rst_tree.specs.Forest.{height}
@@ -57,12 +59,12 @@ loop-node-preserved t c =
     c.loop-node.invariant c.saturating_sub-left.ensures c.fault_after-next_fault.ensures refl (own_kept _ _ _ _ _ keeps)
     (rw (c.in-Element.is, ← c.element-node.ensures) c.in_ok-push-in-Element.ensures.items) refl refl
 
-pub returns-then-all_keep_places-clause-placed : goal.returns-then-all_keep_places-clause-placed
-returns-then-all_keep_places-clause-placed t c =
+pub returns-then-all-clause-placed : goal.returns-then-all-clause-placed
+returns-then-all-clause-placed t c =
     let first = c.args.context.now.first_number in
     sym (ap (λ f. placed_in first c.args.ends (Some AtBeginning) f c.args.context.now.reports.items) c.into_list-list.ensures.forest
     ∙ all_keep first c.args.ends (Some AtBeginning) c.into_list-list.result.items c.args.context.now.reports.items
-    (ap (list_all keeps_place) (sym c.as_slice.ensures.value) ∙ sym c.all_keep_places.ensures ∙ c.if-all_keep_places.true))
+    (ap (list_all keeps_place) (sym c.deref.ensures.value) ∙ sym (all_from_yields_List keeps_place _ _ c.all.result c.all.ensures.ran (YieldsList-from_slice c.deref.result.now cc) (λ x b q k. search (rules, tests))) ∙ c.if-all.true))
 
 pub returns-clause-placed : goal.returns-clause-placed
 returns-clause-placed t c =

@@ -1,6 +1,6 @@
-use Rattle.std.proofs.Common.{◌≡◌, [], ◌∷◌, ◌++◌, Some, option_map, refl, length, ap, ap₂, subst, ◌∙◌}
+use Rattle.std.proofs.Common.{◌≡◌, arith, [], ◌∷◌, ◌++◌, Some, option_map, refl, length, ap, ap₂, subst, ◌∙◌}
 use Rattle.rst_tree_index.specs.Registered.{item_of}
-use Rattle.rst_transform_names.specs.Gathered.{own_name}
+use Rattle.rst_transform_names.specs.Names.{own_name}
 use Rattle.rst_transform_names.specs.Ids.{id_for, AreTaken}
 use Rattle.rst_transform_names.specs.Names.{entry_named}
 use Rattle.rst_transform_names.specs.declared.rulings.Ruling.{Ruling}
@@ -14,7 +14,7 @@ pub returns : goal.returns
 returns c = λ r h.
     let old = c.args.self.now in
     let new = item_of c.args.new in
-    let number : c.serial-serial.result ≡ length r.standings = c.serial-serial.ensures ∙ ap length h.standings in
+    let number : c.len-serial.result ≡ length r.standings = omega (arith, c.len-serial.ensures, old.standings.ok.0, ap length h.standings) in
     let named = c.own_name-name.ensures in
     let given_source = c.in_ok-id.ensures r.ids h.ids in
     let id : c.in_ok-id.id ≡ id_for r.ids new.tag (own_name new) = given_source.0 ∙ ap (id_for r.ids new.tag) named in
