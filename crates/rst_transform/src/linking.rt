@@ -1,11 +1,10 @@
 //! The transforms of links, in order.
 ghost use Rattle.std.specs.Prelude.{IfOk, ◌≡◌};
 ghost use Rattle.rst_transform_work.specs.Known.{Makes};
-ghost use Rattle.rst_transform.specs.Linking.{resolved_links, with_links};
+ghost use Rattle.rst_transform.specs.Linking.{with_links};
 
 use rst_transform_references::{
-    Change, Links, resolve_anonymous, resolve_footnotes, resolve_indirect, resolve_names,
-    with_changes,
+    Links, resolve_anonymous, resolve_footnotes, resolve_indirect, resolve_names, with_changes,
 };
 use rst_transform_work::{Context, Document};
 use rst_tree::{Node, Result, Text};
@@ -14,20 +13,12 @@ use rst_tree::{Node, Result, Text};
 pub fn resolve_links(document: Document, context: &mut Context) -> Result<Document>
     ensures { IfOk result (Makes (with_links document) context.old context.new) }
 {
-    let changes = resolved_links(&document, context)?;
-    let after = with_changes(context.alloc, document, changes)?;
-    Ok(after)
-}
-
-/// What becomes of the links of a document.
-fn resolved_links(document: &Document, context: &mut Context) -> Result<Vec<Change>>
-    ensures { IfOk result (λ changes. Makes (resolved_links document.now) context.old context.new changes.items) }
-{
     let nothing = Node::Text(Text::new(String::new(context.alloc)));
-    let mut links = Links::of(context.alloc, document, &nothing)?;
+    let mut links = Links::of(context.alloc, &document, &nothing)?;
     resolve_anonymous(context, &mut links)?;
     resolve_indirect(context, &mut links)?;
     resolve_footnotes(context, &mut links)?;
     resolve_names(context, &mut links)?;
-    Ok(links.into_changes())
+    let changes = links.into_changes();
+    Ok(with_changes(context.alloc, document, changes)?)
 }

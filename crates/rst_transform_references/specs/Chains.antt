@@ -1,6 +1,6 @@
 -- The chains of indirect targets, each of which refers to the name of the next, and what they come to (Markup Specification, 'Hyperlink
 -- Targets').
-use Rattle.std.specs.Prelude.{ℕ, zero, suc, Bool, true, false, List, get_or, length, map, if◌then◌else◌, is_some, option_map, Option, Some, None}
+use Rattle.std.specs.Prelude.{ℕ, zero, suc, List, get_or, length, map, if◌then◌else◌, is_some, option_map, Option, Some, None}
 use Rattle.std.specs.List.{range_with_len}
 use Rattle.rst_tree.specs.declared.attrs.Attr.{Attr}
 use Rattle.rst_tree.specs.declared.key.Key.TheVariants.{Refname}
@@ -23,22 +23,17 @@ use Rattle.rst_transform_work.specs.Reading.{text_of_attribute}
 abbrev pub indirect_name : Node → Option (List ℕ)
 indirect_name node = if is_target_node node then text_of_attribute Refname node else None
 
--- an indirect target is at a place, if there is one
-abbrev pub is_indirect_at : Option ℕ → Links → Bool
-is_indirect_at None links = false
-is_indirect_at (Some place) links = is_some (indirect_name (node_at place links))
-
--- on to another indirect target, if one has the name, or else to where the name leads
-abbrev pub step_on : Bool → Option ℕ → Attr → Step
-step_on true (Some place) lead = To place
-step_on _ _ lead = Ends (Leads lead)
+-- on to the place of a name, if an indirect target is there, or else to where the name leads
+abbrev pub step_on : Option ℕ → Links → Attr → Step
+step_on None links lead = Ends (Leads lead)
+step_on (Some place) links lead = if is_some (indirect_name (node_at place links)) then To place else Ends (Leads lead)
 
 -- the step to a name, by the places of the elements and by what is known of it; nowhere, if no element has the name
 abbrev pub step_to : List (Option ℕ) → Links → List ℕ → Option NameEntry → Step
 step_to places links name None = Ends (Missing name)
 step_to places links name (Some entry) =
     let holder : Option ℕ = holder_place places entry.holder in
-    if is_nobody entry.holder then Ends (Missing name) else step_on (is_indirect_at holder links) holder (name_lead holder entry links)
+    if is_nobody entry.holder then Ends (Missing name) else step_on holder links (name_lead holder entry links)
 
 -- the first step from each indirect target
 abbrev pub own_step : (List ℕ → Option NameEntry) → List (Option ℕ) → Links → Node → Option Step

@@ -39,9 +39,6 @@ abbrev pub is_target_node : Node → Bool
 is_target_node (Tagged t a c l) = is_target t
 is_target_node (Words t) = false
 
-abbrev pub target_lead : ℕ → Links → Option Attr
-target_lead place links = if is_target_node (node_at place links) then lead_at place links else None
-
 -- to the URI of the element that brought a name, or else to its id
 abbrev pub kept_lead : Option (List ℕ) → List ℕ → Attr
 kept_lead (Some uri) id = attr Refuri (Text uri)
@@ -49,4 +46,4 @@ kept_lead None id = attr Refid (Text id)
 
 -- where a name leads: where its holder leads if that is a target, or else there
 abbrev pub name_lead : Option ℕ → NameEntry → Links → Attr
-name_lead holder entry links = unwrap_or (option_and_then (λ place. target_lead place links) holder) (kept_lead entry.uri entry.id)
+name_lead holder entry links = unwrap_or (option_and_then (λ place. if is_target_node (node_at place links) then lead_at place links else None) holder) (kept_lead entry.uri entry.id)

@@ -1,5 +1,5 @@
 -- References by name (Markup Specification, 'Hyperlink References', 'Footnotes', 'Citations'): each leads where its name leads, or else fails.
-use Rattle.std.specs.Prelude.{ℕ, ◌&&◌, ◌||◌, Bool, true, false, List, [], ◌∷◌, ◌++◌, codes, map, if◌then◌else◌, is_none, is_some, option_and_then, slice_get, Option, Some, None}
+use Rattle.std.specs.Prelude.{ℕ, ◌&&◌, ◌||◌, Bool, true, false, List, [], ◌∷◌, ◌++◌, codes, map, if◌then◌else◌, is_none, is_some, option_and_then, option_map, slice_get, unwrap_or, Option, Some, None}
 use Rattle.std.specs.List.{list_any}
 use Rattle.rst_transform_names.specs.declared.names.NameEntry.{NameEntry}
 use Rattle.rst_tree.specs.declared.key.Key.TheVariants.{Auto, Ids, Refname}
@@ -62,38 +62,33 @@ refers_back _ _ links = links
 abbrev pub label_for : Node → Option ℕ → Links → Option (List ℕ)
 label_for node note links = if refers_to_note node && is_some (node_value Auto node) then option_and_then (λ place. label_at place links) note else None
 
--- the text of the ERROR on a name that means nothing, and on one that elements with equal names lost
+-- the text of the ERROR on a name that means nothing
 abbrev pub unknown : List ℕ → List ℕ
 unknown name = codes "Unknown target name: \"" ++ (name ++ codes "\".")
-
-abbrev pub duplicate : List ℕ → List ℕ
-duplicate name = codes "Duplicate target name, cannot be used as a unique reference: \"" ++ (name ++ codes "\".")
 
 -- the reference at a place fails for an ERROR of its own
 abbrev pub fails_alone : ℕ → List ℕ → Links → Known → Links × Known
 fails_alone place text links = fail_for (place ∷ []) (line_of (node_at place links)) text links
 
 -- What becomes of the reference at a place, by its name and what is known of it: it leads where the name leads, but one to a footnote or a citation
--- may lead nowhere else.
+-- may lead nowhere else. It fails, too, if elements with equal names lost the name.
 abbrev pub resolves_to : List (Option ℕ) → ℕ → List ℕ → Option NameEntry → Links → Known → Links × Known
 resolves_to places place name None links known = fails_alone place (unknown name) links known
 resolves_to places place name (Some entry) links known =
     let node : Node = node_at place links in
     let holder : Option ℕ = holder_place places entry.holder in
-    let note : Option ℕ = note_at holder links in
-    if is_nobody entry.holder then fails_alone place (duplicate name) links known
-    else if refers_to_note node && is_none note then fails_alone place (unknown name) links known
-    else (puts place (Stays (Some (name_lead holder entry links)) (label_for node note links)) links, known)
+    if is_nobody entry.holder then fails_alone place (codes "Duplicate target name, cannot be used as a unique reference: \"" ++ (name ++ codes "\".")) links known
+    else if refers_to_note node && is_none (note_at holder links) then fails_alone place (unknown name) links known
+    else (puts place (Stays (Some (name_lead holder entry links)) (label_for node holder links)) links, known)
+
+-- the name of a reference by name
+abbrev pub name_at : ℕ → Links → Option (List ℕ)
+name_at place links = let node : Node = node_at place links in if is_reference_node node || refers_to_note node then text_of_attribute Refname node else None
 
 -- the same of any element: one that is no reference, or has no name, stays as it is
-abbrev pub resolves_by : List (Option ℕ) → ℕ → Option (List ℕ) → Links → Known → Links × Known
-resolves_by places place None links known = (links, known)
-resolves_by places place (Some name) links known = resolves_to places place name (known.names name) links known
-
 abbrev pub resolves : List (Option ℕ) → ℕ → Links → Known → Links × Known
-resolves places place links =
-    let node : Node = node_at place links in
-    resolves_by places place (if is_reference_node node || refers_to_note node then text_of_attribute Refname node else None) links
+resolves places place links known =
+    unwrap_or (option_map (λ name. resolves_to places place name (known.names name) links known) (name_at place links)) (links, known)
 
 -- each footnote and citation lists the references to it, in their order, if there are some
 abbrev pub with_backrefs : (List ℕ → Option NameEntry) → List (Option ℕ) → Links → Links

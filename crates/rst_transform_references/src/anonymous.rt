@@ -1,16 +1,16 @@
 //! Anonymous references.
 ghost use Rattle.std.specs.Prelude.{IfOk, ◌≡◌};
 ghost use Rattle.std.specs.List.{zip};
-ghost use Rattle.rst_transform_references.specs.Anonymous.{anonymous, first_line, lead_to, leads_to_target, mismatch};
+ghost use Rattle.rst_transform_references.specs.Anonymous.{anonymous, first_line, lead_to, leads_to_target};
 ghost use Rattle.rst_transform_references.specs.Links.{all};
 ghost use Rattle.rst_transform_work.specs.Known.{Makes};
 
 use crate::failing::fail_for;
-use crate::leads::{lead_at, lead_to_id};
+use crate::leads::{Lead, lead_at, lead_to_id};
 use crate::links::{Change, Links};
 use crate::orders::{Order, paired, references_by, targets_by};
 use rst_transform_work::{Context, has, line_of};
-use rst_tree::{Entry, Key, Result, Text};
+use rst_tree::{Key, Result, Text};
 use std::alloc::Global;
 
 /// Lets the n-th anonymous reference refer to the n-th anonymous target (Markup Specification, 'Anonymous Hyperlinks').
@@ -45,8 +45,12 @@ pub fn resolve_anonymous(context: &mut Context, links: &mut Links<'_>) -> Result
         return Ok(());
     }
     let line = first_line(links, &references, &targets);
-    let text = mismatch(context.alloc, references.len(), targets.len())?;
-    fail_for(context, links, &references, line, text)?;
+    let text = format!(in context.alloc;
+        "Anonymous hyperlink mismatch: {} references but {} targets.",
+        references.len(),
+        targets.len()
+    )?;
+    fail_for(context, links, &references, line, Text::new(text))?;
     Ok(())
 }
 
@@ -68,7 +72,7 @@ fn lead_to_targets(
 }
 
 /// Where a reference to the target at a place leads: where the target does, or else to its id, unless it is an indirect one.
-fn lead_to(alloc: Global, links: &Links<'_>, target: usize) -> Result<Option<Entry>>
+fn lead_to(alloc: Global, links: &Links<'_>, target: usize) -> Result<Option<Lead>>
     ensures { IfOk result (λ lead. lead ≡ lead_to target links.now) }
 {
     if let Some(lead) = lead_at(alloc, links, target)? {
@@ -89,14 +93,4 @@ fn first_line(links: &Links<'_>, references: &[usize], targets: &[usize]) -> usi
         Some(place) => line_of(links.node(*place)),
         None => 0,
     }
-}
-
-/// That there are more of the ones than of the others, in words.
-fn mismatch(alloc: Global, references: usize, targets: usize) -> Result<Text>
-    ensures { IfOk result (λ text. text ≡ mismatch references targets) }
-{
-    let text = format!(in alloc;
-        "Anonymous hyperlink mismatch: {references} references but {targets} targets."
-    )?;
-    Ok(Text::new(text))
 }

@@ -3,15 +3,16 @@ ghost use Rattle.std.specs.Prelude.{IfOk, ◌≡◌};
 ghost use Rattle.rst_transform_references.specs.Chains.{answers_of, joined, next_on, stopped};
 ghost use Rattle.rst_transform_work.specs.Lists.{at_place};
 
+use crate::leads::Lead;
 use rst_transform_work::{at_place, item_at, put_at};
-use rst_tree::{Entry, Result, Text};
+use rst_tree::{Result, Text};
 use std::alloc::Global;
 
 /// What an indirect target comes to, through further ones.
 #[derive(Drop)]
 pub enum Answer {
     /// It leads where this attribute points.
-    Leads(Entry),
+    Leads(Lead),
     /// The last name in its chain belongs to no element.
     Missing(Text),
     /// Its chain runs into a circle.
@@ -29,11 +30,11 @@ pub enum Step {
 
 impl Answer {
     /// An equal answer.
-    fn copy(&self, alloc: Global) -> Result<Answer>
+    fn copy(&self) -> Result<Answer>
         ensures { IfOk result (λ answer. answer ≡ self.now) }
     {
         match self {
-            Answer::Leads(attr) => Ok(Answer::Leads(attr.copy(alloc)?)),
+            Answer::Leads(lead) => Ok(Answer::Leads(lead.copy()?)),
             Answer::Missing(name) => Ok(Answer::Missing(name.copy()?)),
             Answer::Circular => Ok(Answer::Circular),
         }
@@ -55,7 +56,7 @@ pub fn answers(alloc: Global, steps: &[Option<Step>]) -> Result<Vec<Option<Answe
             put_at(&mut starts, place, Some(start));
             place = next;
         }
-        let answer = stopped(alloc, steps, &starts, answers.as_slice(), place)?;
+        let answer = stopped(steps, &starts, answers.as_slice(), place)?;
         answers.push(answer)?;
     }
     Ok(answers)
@@ -76,7 +77,6 @@ fn next_on(steps: &[Option<Step>], starts: &[Option<usize>], place: usize) -> Op
 
 /// What a chain comes to that stops at a place.
 fn stopped(
-    alloc: Global,
     steps: &[Option<Step>],
     starts: &[Option<usize>],
     answers: &[Option<Answer>],
@@ -86,20 +86,20 @@ fn stopped(
 {
     match item_at(steps, place) {
         None => Ok(None),
-        Some(Step::Ends(answer)) => Ok(Some(answer.copy(alloc)?)),
-        Some(Step::To(_)) => joined(alloc, answers, at_place(starts, place)),
+        Some(Step::Ends(answer)) => Ok(Some(answer.copy()?)),
+        Some(Step::To(_)) => joined(answers, at_place(starts, place)),
     }
 }
 
 /// What the chain from a start comes to. It is a circle if that isn't known yet.
-fn joined(alloc: Global, answers: &[Option<Answer>], start: Option<usize>) -> Result<Option<Answer>>
+fn joined(answers: &[Option<Answer>], start: Option<usize>) -> Result<Option<Answer>>
     ensures { IfOk result (λ answer. answer ≡ joined start answers.now) }
 {
     let Some(start) = start else {
         return Ok(Some(Answer::Circular));
     };
     match answers.get(start) {
-        Some(Some(answer)) => Ok(Some(answer.copy(alloc)?)),
+        Some(Some(answer)) => Ok(Some(answer.copy()?)),
         Some(None) => Ok(None),
         None => Ok(Some(Answer::Circular)),
     }

@@ -51,7 +51,7 @@ impl Changes {
             None => Ok(true),
             Some(Change::Stays { lead, text }) => {
                 if let Some(lead) = lead {
-                    attrs.set(lead.key(), lead.into_value())?;
+                    attrs.set(lead.key, Value::Text(lead.text))?;
                 }
                 let Some(text) = text else {
                     return Ok(true);

@@ -1,9 +1,9 @@
 //! Footnotes.
 ghost use Rattle.std.specs.Prelude.{IfOk, ◌≡◌, ℕ, List, drop};
-ghost use Rattle.std.specs.List.{list_any, zip};
+ghost use Rattle.std.specs.List.{zip};
 ghost use Rattle.rst_transform_names.specs.Names.{entry_named};
 ghost use Rattle.rst_transform_references.specs.Footnotes.{footnotes, is_of_footnotes, label_at, labelled, leads_to_footnote, left_over, order_name, refer_by, with_number};
-ghost use Rattle.rst_transform_references.specs.Links.{all, node_at, places_of};
+ghost use Rattle.rst_transform_references.specs.Links.{all};
 ghost use Rattle.rst_transform_work.specs.Known.{Makes};
 
 use crate::failing::fail_for;
@@ -59,7 +59,7 @@ use std::alloc::Global;
 pub fn resolve_footnotes(context: &mut Context, links: &mut Links<'_>) -> Result<()>
     ensures { IfOk result (λ _. Makes (footnotes links.old) context.old context.new links.new) }
 {
-    if !any_is_of_footnotes(links) {
+    if !(0..links.len()).any(|place| is_of_footnotes(links.node(place))) {
         return Ok(());
     }
     let labels = labels(context.alloc, links)?;
@@ -69,13 +69,6 @@ pub fn resolve_footnotes(context: &mut Context, links: &mut Links<'_>) -> Result
     refer_by(context, links, Order::Numbers)?;
     refer_by(context, links, Order::Symbols)?;
     Ok(())
-}
-
-/// Whether an element is a footnote or a reference to one.
-fn any_is_of_footnotes(links: &Links<'_>) -> bool
-    ensures { result ≡ list_any (λ place. is_of_footnotes (node_at place links.now)) (places_of links.now) }
-{
-    (0..links.len()).any(|place| is_of_footnotes(links.node(place)))
 }
 
 /// Whether a node is a footnote or a reference to one.

@@ -1,22 +1,22 @@
 //! Indirect targets.
 ghost use Rattle.std.specs.Prelude.{IfOk, ◌≡◌, [], ◌∷◌, filter, is_some, length, map, replicate, option_map, MatchOption, None, Some};
-ghost use Rattle.std.specs.List.{list_any, range_with_len};
+ghost use Rattle.std.specs.List.{range_with_len};
 ghost use Rattle.rst_transform_names.specs.Names.{entry_named};
 ghost use Rattle.rst_transform_references.specs.Chains.{indirect_name, own_step, steps_of};
-ghost use Rattle.rst_transform_references.specs.Indirect.{all_lead, circular_text, concludes, indirect, is_anonymous_at, is_reference_node, lists_now, missing_text, named_target, with_reference, references_to, targets_of};
-ghost use Rattle.rst_transform_references.specs.Links.{each, node_at, places_of};
+ghost use Rattle.rst_transform_references.specs.Indirect.{all_lead, concludes, indirect, is_anonymous_at, is_reference_node, lists_now, missing_text, named_target, with_reference, references_to, targets_of};
+ghost use Rattle.rst_transform_references.specs.Links.{each};
 ghost use Rattle.rst_transform_work.specs.Known.{Makes};
 ghost use Rattle.rst_transform_work.specs.Lists.{at_place};
 
 use crate::chains::{Answer, Step, answers};
 use crate::failing::fail_for;
 use crate::holders::{holder_place, is_lost, named_place, places_by_number};
-use crate::leads::{is_target, name_lead};
+use crate::leads::{Lead, is_target, name_lead};
 use crate::links::{Change, Links};
 use crate::orders::{Order, add_pairs};
 use rst_transform_names::Names;
 use rst_transform_work::{Context, at_place, has, item_at, line_of, text_of_attribute};
-use rst_tree::{Entry, Key, Node, Result, Tag, Text};
+use rst_tree::{Key, Node, Result, Tag, Text};
 use std::alloc::Global;
 
 /// Lets each target that refers to a name lead where that name leads, through further such targets (Markup Specification,
@@ -50,7 +50,7 @@ use std::alloc::Global;
 pub fn resolve_indirect(context: &mut Context, links: &mut Links<'_>) -> Result<()>
     ensures { IfOk result (λ _. Makes (indirect links.old) context.old context.new links.new) }
 {
-    if !any_is_indirect(links) {
+    if !(0..links.len()).any(|place| is_indirect(links.node(place))) {
         return Ok(());
     }
     let alloc = context.alloc;
@@ -63,13 +63,6 @@ pub fn resolve_indirect(context: &mut Context, links: &mut Links<'_>) -> Result<
         conclude(context, links, place, list, item_at(&answers, place))?;
     }
     Ok(())
-}
-
-/// Whether an element is an indirect target.
-fn any_is_indirect(links: &Links<'_>) -> bool
-    ensures { result ≡ list_any (λ place. is_some (indirect_name (node_at place links.now))) (places_of links.now) }
-{
-    (0..links.len()).any(|place| is_indirect(links.node(place)))
 }
 
 /// Whether a node is an indirect target.
@@ -157,19 +150,6 @@ fn named_target(names: &Names, places: &[Option<usize>], node: &Node) -> Option<
     named_place(names, places, node)
 }
 
-/// The same for all.
-fn named_targets(
-    alloc: Global,
-    names: &Names,
-    places: &[Option<usize>],
-    links: &Links<'_>,
-) -> Result<Vec<Option<usize>>>
-    ensures { IfOk result (λ targets. targets.items ≡ map (λ place. named_target (entry_named names.now) places.now (node_at place links.now)) (places_of links.now)) }
-{
-    let targets = (0..links.len()).map(|place| named_target(names, places, links.node(place)));
-    Ok(targets.collect(alloc)?)
-}
-
 /// For each reference the place of the target that it refers to, by its name or by the order.
 fn targets_of(
     alloc: Global,
@@ -179,7 +159,8 @@ fn targets_of(
 ) -> Result<Vec<Option<usize>>>
     ensures { IfOk result (λ targets. targets.items ≡ targets_of (entry_named names.now) places.now links.now) }
 {
-    let mut targets = named_targets(alloc, names, places, links)?;
+    let targets = (0..links.len()).map(|place| named_target(names, places, links.node(place)));
+    let mut targets = targets.collect(alloc)?;
     add_pairs(alloc, links, Order::Anonymous, &mut targets)?;
     Ok(targets)
 }
@@ -239,8 +220,10 @@ fn conclude(
             fail_for(context, links, references, line, text)?;
         }
         Some(Answer::Circular) => {
-            let text = circular_text(context.alloc, name)?;
-            fail_for(context, links, references, line, text)?;
+            let text = format!(in context.alloc;
+                "Indirect hyperlink target \"{name}\" is circular."
+            )?;
+            fail_for(context, links, references, line, Text::new(text))?;
         }
     }
     Ok(())
@@ -250,7 +233,7 @@ fn conclude(
 fn lead_all(
     alloc: Global,
     links: &mut Links<'_>,
-    lead: &Entry,
+    lead: &Lead,
     target: usize,
     references: &[usize],
 ) -> Result<()>
@@ -261,7 +244,7 @@ fn lead_all(
         .copied()
         .filter(|place| has(links.node(*place), Key::Anonymous));
     let anonymous: Vec<usize> = anonymous.collect(alloc)?;
-    let own = Some(lead.copy(alloc)?);
+    let own = Some(lead.copy()?);
     links.put(
         target,
         Change::Stays {
@@ -270,7 +253,7 @@ fn lead_all(
         },
     );
     for place in &anonymous {
-        let lead = Some(lead.copy(alloc)?);
+        let lead = Some(lead.copy()?);
         links.put(*place, Change::Stays { lead, text: None });
     }
     Ok(())
@@ -283,13 +266,5 @@ fn missing_text(alloc: Global, name: &str, missing: &str) -> Result<Text>
     let text = format!(in alloc;
         "Indirect hyperlink target \"{name}\" refers to target \"{missing}\", which does not exist."
     )?;
-    Ok(Text::new(text))
-}
-
-/// The words of the message on a target whose chain is a circle.
-fn circular_text(alloc: Global, name: &str) -> Result<Text>
-    ensures { IfOk result (λ text. text ≡ circular_text name.now) }
-{
-    let text = format!(in alloc; "Indirect hyperlink target \"{name}\" is circular.")?;
     Ok(Text::new(text))
 }

@@ -1,5 +1,5 @@
 //! The elements that references join, and what becomes of them.
-ghost use Rattle.std.specs.Prelude.{IfOk, ◌≡◌, ◌+◌, [], length, replicate, slice_get, MatchOption, None, Some};
+ghost use Rattle.std.specs.Prelude.{IfOk, ◌≡◌, ◌+◌, [], length, slice_get, MatchOption, None, Some};
 ghost use Rattle.rst_tree.specs.declared.node.Node.TheVariants.{Text as Words};
 ghost use Rattle.rst_transform_references.specs.declared.links.Change.TheVariants.{Stays};
 ghost use Rattle.rst_transform_references.specs.Failing.{fails, without};
@@ -8,11 +8,13 @@ ghost use Rattle.rst_transform_references.specs.Links.{change_at, linked_among, 
 ghost use Rattle.rst_transform_references.specs.Resolving.{with_backref};
 ghost use Rattle.rst_transform_work.specs.Known.{Makes};
 
+use crate::leads::Lead;
 use rst_transform_work::{Context, Document, ProblematicAttrs, put_at};
-use rst_tree::{Children, Entry, Node, Reader, Result, Text, Texts, read_elements};
+use rst_tree::{Children, Node, Reader, Result, Text, Texts, read_elements};
 use rst_tree_index::is_linked_tag;
 use std::alloc::Global;
 use std::marker::Model;
+use std::mem;
 
 /// What becomes of a linked element.
 #[derive(Drop)]
@@ -20,7 +22,7 @@ pub enum Change {
     /// It stays. In the end it leads there, and has this text in place of its content, if there are any. What gets a text,
     /// a label or a reference to a footnote, contains no linked element.
     Stays {
-        lead: Option<Entry>,
+        lead: Option<Lead>,
         text: Option<Text>,
     },
     /// It is a footnote or a citation, and has these names and lists these references to it, if there are some.
@@ -72,20 +74,6 @@ fn linked_among<'a>(alloc: Global, nodes: &'a Children) -> Result<Vec<&'a Node>>
     Ok(linked.list)
 }
 
-/// That `count` elements stay as they are.
-fn no_changes(alloc: Global, count: usize) -> Result<Vec<Change>>
-    ensures { IfOk result (λ changes. changes.items ≡ replicate count (Stays None None)) }
-{
-    let mut changes = Vec::with_capacity(alloc, count)?;
-    for _ in 0..count {
-        changes.push(Change::Stays {
-            lead: None,
-            text: None,
-        })?;
-    }
-    Ok(changes)
-}
-
 /// The linked elements of a document, each at its place, and what becomes of them.
 #[derive(Drop)]
 pub struct Links<'a> {
@@ -121,7 +109,11 @@ impl<'a> Links<'a> {
         ensures { IfOk result (λ links. links ≡ links_of document.now) }
     {
         let linked = linked_among(alloc, &document.children)?;
-        let changes = no_changes(alloc, linked.len())?;
+        let changes = (0..linked.len()).map(|_| Change::Stays {
+            lead: None,
+            text: None,
+        });
+        let changes = changes.collect(alloc)?;
         Ok(Links {
             nothing,
             linked,
@@ -173,7 +165,19 @@ impl<'a> Links<'a> {
     pub fn put(&mut self, place: usize, change: Change)
         ensures { self.new ≡ puts place change self.old }
     {
-        put_at(&mut self.changes, place, change);
+        if place >= self.changes.len() {
+            return;
+        }
+        // Mostly nothing became of it before: then there is nothing to free.
+        if let Change::Stays {
+            lead: None,
+            text: None,
+        } = &self.changes[place]
+        {
+            mem::forget(mem::replace(&mut self.changes[place], change));
+        } else {
+            self.changes[place] = change;
+        }
     }
 
     /// Lets the element after the one at a place get this text.

@@ -2,7 +2,7 @@
 ghost use Rattle.std.specs.Prelude.{IfOk, ◌≡◌};
 ghost use Rattle.std.specs.List.{zip};
 ghost use Rattle.rst_transform_references.specs.Indirect.{with_pairs};
-ghost use Rattle.rst_transform_references.specs.Orders.{is_order, order_of_label, pairs_by, reference_order, references_by, target_order, targets_by, written_label};
+ghost use Rattle.rst_transform_references.specs.Orders.{is_order, pairs_by, reference_order, references_by, target_order, targets_by, written_label};
 
 use crate::links::Links;
 use rst_transform_work::{put_at, text_or_empty};
@@ -71,7 +71,7 @@ pub fn reference_order(node: &Node) -> Option<Order>
         return None;
     };
     match tag {
-        Tag::Reference => attrs.has(Key::Anonymous).then_some(Order::Anonymous),
+        Tag::Reference if attrs.has(Key::Anonymous) => Some(Order::Anonymous),
         Tag::FootnoteReference if !attrs.has(Key::Refname) => match attrs.get(Key::Auto)? {
             ValueRef::Text(text) if text.as_str() == "*" => Some(Order::Symbols),
             _ => Some(Order::Numbers),
@@ -81,6 +81,7 @@ pub fn reference_order(node: &Node) -> Option<Order>
 }
 
 /// The places of the references of an order.
+#[inline(always)]
 pub fn references_by(alloc: Global, links: &Links<'_>, order: Order) -> Result<Vec<usize>>
     ensures { IfOk result (λ places. places.items ≡ references_by order links.now) }
 {
@@ -89,6 +90,7 @@ pub fn references_by(alloc: Global, links: &Links<'_>, order: Order) -> Result<V
 }
 
 /// The places of the targets or footnotes that they find.
+#[inline(always)]
 pub fn targets_by(alloc: Global, links: &Links<'_>, order: Order) -> Result<Vec<usize>>
     ensures { IfOk result (λ places. places.items ≡ targets_by order links.now) }
 {

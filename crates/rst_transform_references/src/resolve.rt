@@ -1,9 +1,7 @@
 //! References by name.
-ghost use Rattle.std.specs.Prelude.{IfOk, ◌≡◌, ◌++◌, codes, map, option_map};
-ghost use Rattle.std.specs.List.{list_any};
+ghost use Rattle.std.specs.Prelude.{IfOk, ◌≡◌, ◌++◌, codes, option_map};
 ghost use Rattle.rst_transform_names.specs.Names.{entry_named};
-ghost use Rattle.rst_transform_references.specs.Links.{node_at, places_of};
-ghost use Rattle.rst_transform_references.specs.Resolving.{fails_alone, is_noted, label_for, named_note, note_at, notes_of, refers_back, refers_to_note, references, resolves, with_backrefs};
+ghost use Rattle.rst_transform_references.specs.Resolving.{fails_alone, label_for, named_note, note_at, notes_of, refers_back, refers_to_note, references, resolves, with_backrefs};
 ghost use Rattle.rst_transform_work.specs.Known.{Makes};
 
 use crate::failing::fail_for;
@@ -15,7 +13,7 @@ use crate::links::{Change, Links};
 use crate::orders::{Order, add_pairs};
 use rst_transform_names::Names;
 use rst_transform_work::{Context, at_place, first_of_attribute, has, line_of, text_of_attribute};
-use rst_tree::{Key, Node, Result, Tag, Text, Texts};
+use rst_tree::{Key, Node, Result, Tag, Text};
 use std::alloc::Global;
 
 /// Lets each reference by name refer to what the name means, and each footnote and citation list its references (Markup
@@ -62,17 +60,8 @@ pub fn resolve_names(context: &mut Context, links: &mut Links<'_>) -> Result<()>
     Ok(())
 }
 
-/// Whether a node is a footnote or a citation.
-fn is_noted(node: &Node) -> bool
-    ensures { result ≡ is_noted node.now }
-{
-    match node {
-        Node::Element { tag, .. } => matches!(tag, Tag::Footnote | Tag::Citation),
-        Node::Text(_) => false,
-    }
-}
-
 /// Whether a node is a reference to a footnote or a citation.
+#[inline(always)]
 fn refers_to_note(node: &Node) -> bool
     ensures { result ≡ refers_to_note node.now }
 {
@@ -89,7 +78,10 @@ fn note_at(links: &Links<'_>, place: Option<usize>) -> Option<usize>
     ensures { result ≡ note_at place links.now }
 {
     let place = place?;
-    is_noted(links.node(place)).then_some(place)
+    match links.node(place) {
+        Node::Element { tag, .. } if matches!(tag, Tag::Footnote | Tag::Citation) => Some(place),
+        _ => None,
+    }
 }
 
 /// The place of the footnote or citation that an element refers to by its name, if it does.
@@ -107,19 +99,6 @@ fn named_note(
     note_at(links, named_place(names, places, node))
 }
 
-/// The same for all.
-fn named_notes(
-    alloc: Global,
-    names: &Names,
-    places: &[Option<usize>],
-    links: &Links<'_>,
-) -> Result<Vec<Option<usize>>>
-    ensures { IfOk result (λ notes. notes.items ≡ map (λ place. named_note (entry_named names.now) places.now links.now (node_at place links.now)) (places_of links.now)) }
-{
-    let notes = (0..links.len()).map(|place| named_note(names, places, links, links.node(place)));
-    Ok(notes.collect(alloc)?)
-}
-
 /// For each element the place of the footnote or citation that it refers to, by its name or by the orders.
 fn notes_of(
     alloc: Global,
@@ -129,17 +108,11 @@ fn notes_of(
 ) -> Result<Vec<Option<usize>>>
     ensures { IfOk result (λ notes. notes.items ≡ notes_of (entry_named names.now) places.now links.now) }
 {
-    let mut notes = named_notes(alloc, names, places, links)?;
+    let notes = (0..links.len()).map(|place| named_note(names, places, links, links.node(place)));
+    let mut notes = notes.collect(alloc)?;
     add_pairs(alloc, links, Order::Numbers, &mut notes)?;
     add_pairs(alloc, links, Order::Symbols, &mut notes)?;
     Ok(notes)
-}
-
-/// Whether an element refers to a footnote or a citation.
-fn any_refers_to_note(links: &Links<'_>) -> bool
-    ensures { result ≡ list_any (λ place. refers_to_note (node_at place links.now)) (places_of links.now) }
-{
-    (0..links.len()).any(|place| refers_to_note(links.node(place)))
 }
 
 /// Lets each footnote and citation list the ids of the references to it.
@@ -151,7 +124,7 @@ fn list_references(
 ) -> Result<()>
     ensures { IfOk result (λ _. links.new ≡ with_backrefs (entry_named names.now) places.now links.old) }
 {
-    if !any_refers_to_note(links) {
+    if !(0..links.len()).any(|place| refers_to_note(links.node(place))) {
         return Ok(());
     }
     let notes = notes_of(alloc, names, places, links)?;
@@ -180,6 +153,7 @@ fn refer_back(
 }
 
 /// The text of a reference in place of its content, if it gets the label of the footnote or citation at a place.
+#[inline(always)]
 fn label_for(
     alloc: Global,
     links: &Links<'_>,
@@ -244,13 +218,12 @@ fn resolve(
         return Ok(());
     }
     let holder = holder_place(places, known.holder);
-    let note = note_at(links, holder);
-    if refers_to_note(node) && note.is_none() {
+    if refers_to_note(node) && note_at(links, holder).is_none() {
         fail_by_name(context, links, place, UNKNOWN, name)?;
         return Ok(());
     }
     let lead = Some(name_lead(context.alloc, links, holder, known)?);
-    let text = label_for(context.alloc, links, node, note)?;
+    let text = label_for(context.alloc, links, node, holder)?;
     links.put(place, Change::Stays { lead, text });
     Ok(())
 }

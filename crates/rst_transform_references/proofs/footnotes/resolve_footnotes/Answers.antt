@@ -1,14 +1,18 @@
-use Rattle.std.proofs.Common.{◌≡◌, false, refl, rules, take, true}
+use Rattle.std.proofs.Common.{◌≡◌, false, length, refl, rules, take, tests, true, arith}
 use Rattle.std.specs.List.{list_any}
+use Rattle.std.proofs.lemmas.Iterator.{YieldsList-from_range}
+use Rattle.std.proofs.lemmas.Iterator.Search.{any_from_yields_List}
 use Rattle.std.proofs.lemmas.List.{take_all}
 use Rattle.rst_transform_references.specs.Footnotes.{footnotes, is_of_footnotes, labelled}
 use Rattle.rst_transform_references.specs.Links.{node_at, places_of}
 use Rattle.rst_transform_references.proofs.Each.{each_more}
 use Rattle.rst_transform_references.proofs.footnotes.resolve_footnotes.Goals as goal
 
-pub returns-then-not-any_is_of_footnotes : goal.returns-then-not-any_is_of_footnotes
+pub returns-then-not-any : goal.returns-then-not-any
 unfolding footnotes
-returns-then-not-any_is_of_footnotes c known h =
+returns-then-not-any c known h =
+    let any : c.any.result ≡ list_any (λ place. is_of_footnotes (node_at place c.args.links.now)) (places_of c.args.links.now) =
+    any_from_yields_List (λ place. is_of_footnotes (node_at place c.args.links.now)) c.any.new.self _ c.any.result c.any.ensures.ran (YieldsList-from_range 0 c.len.result (length c.args.links.now.linked) refl (omega (arith, c.len.ensures))) (λ x b q k. search (rules, tests)) in
     let none : list_any (λ place. is_of_footnotes (node_at place c.args.links.now)) (places_of c.args.links.now) ≡ false = search rules in rw none (refl, h)
 
 pub loop-label-preserved : goal.loop-label-preserved
@@ -19,6 +23,8 @@ loop-label-preserved c =
 pub returns : goal.returns
 unfolding footnotes
 returns c known h =
+    let any : c.any.result ≡ list_any (λ place. is_of_footnotes (node_at place c.args.links.now)) (places_of c.args.links.now) =
+    any_from_yields_List (λ place. is_of_footnotes (node_at place c.args.links.now)) c.any.new.self _ c.any.result c.any.ensures.ran (YieldsList-from_range 0 c.len.result (length c.args.links.now.linked) refl (omega (arith, c.len.ensures))) (λ x b q k. search (rules, tests)) in
     let some : list_any (λ place. is_of_footnotes (node_at place c.args.links.now)) (places_of c.args.links.now) ≡ true = search rules in
     let every : take c.loop-label.label-index c.in_ok-labels.labels.items ≡ c.in_ok-labels.labels.items = take_all c.loop-label.label-index c.in_ok-labels.labels.items (search rules) in
     let shown = rw (c.deref-label-items.ensures.value, every) at c.loop-label.invariant known h in

@@ -17,5 +17,5 @@ pub returns-in_ok-fail_for-in-Some-Circular : goal.returns-in_ok-fail_for-in-Som
 returns-in_ok-fail_for-in-Some-Circular c known h =
     let is : option_map (λ a. a.now) c.args.answer ≡ Some Circular = search rules in
     let line : c.line_of-line.result ≡ line_of (node_at c.args.target c.args.links.now) = search rules in
-    let text : c.in_ok-text-in-Some-Circular.text ≡ circular_text (own_name (node_at c.args.target c.args.links.now)) = search rules in
+    let text : c.new.result ≡ circular_text (own_name (node_at c.args.target c.args.links.now)) = search rules in
     rw (is, ← line, ← text) (c.in_ok-fail_for-in-Some-Circular.ensures known h)

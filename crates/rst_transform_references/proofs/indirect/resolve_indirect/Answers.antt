@@ -1,4 +1,6 @@
-use Rattle.std.proofs.Common.{◌≡◌, ◌∙◌, ℕ, length, ap, false, refl, true, rules}
+use Rattle.std.proofs.Common.{◌≡◌, ◌∙◌, ℕ, length, ap, false, refl, true, rules, tests, arith}
+use Rattle.std.proofs.lemmas.Iterator.{YieldsList-from_range}
+use Rattle.std.proofs.lemmas.Iterator.Search.{any_from_yields_List}
 use Rattle.std.specs.List.{list_any}
 use Rattle.std.specs.Prelude.{is_some, option_map}
 use Rattle.rst_transform_names.specs.Names.{entry_named}
@@ -11,9 +13,11 @@ use Rattle.rst_transform_references.proofs.Each.{each_next, now_is}
 use Rattle.rst_transform_references.proofs.Grouping.{list_at, lists_length}
 use Rattle.rst_transform_references.proofs.indirect.resolve_indirect.Goals as goal
 
-pub returns-then-not-any_is_indirect : goal.returns-then-not-any_is_indirect
+pub returns-then-not-any : goal.returns-then-not-any
 unfolding indirect
-returns-then-not-any_is_indirect c known h =
+returns-then-not-any c known h =
+    let any : c.any.result ≡ list_any (λ place. is_some (indirect_name (node_at place c.args.links.now))) (places_of c.args.links.now) =
+    any_from_yields_List (λ place. is_some (indirect_name (node_at place c.args.links.now))) c.any.new.self _ c.any.result c.any.ensures.ran (YieldsList-from_range 0 c.len.result (length c.args.links.now.linked) refl (omega (arith, c.len.ensures))) (λ x b q k. search (rules, tests)) in
     let none : list_any (λ place. is_some (indirect_name (node_at place c.args.links.now))) (places_of c.args.links.now) ≡ false = search rules in rw none (refl, h)
 
 pub loop-place-preserved : goal.loop-place-preserved
@@ -27,6 +31,8 @@ loop-place-preserved c =
 pub returns : goal.returns
 unfolding indirect
 returns c known h =
+    let any : c.any.result ≡ list_any (λ place. is_some (indirect_name (node_at place c.args.links.now))) (places_of c.args.links.now) =
+    any_from_yields_List (λ place. is_some (indirect_name (node_at place c.args.links.now))) c.any.new.self _ c.any.result c.any.ensures.ran (YieldsList-from_range 0 c.len.result (length c.args.links.now.linked) refl (omega (arith, c.len.ensures))) (λ x b q k. search (rules, tests)) in
     let some : list_any (λ place. is_some (indirect_name (node_at place c.args.links.now))) (places_of c.args.links.now) ≡ true = search rules in
     let at : c.in_ok-places.places.items ≡ places_by_number c.args.context.now.serials c.args.links.now = search rules in
     let places : c.in_ok-places.places.items ≡ places_by_number known.serials c.args.links.now = at ∙ ap (λ (n : ℕ). places_by_number n c.args.links.now) h.serials in

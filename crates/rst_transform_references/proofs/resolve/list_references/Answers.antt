@@ -1,4 +1,6 @@
-use Rattle.std.proofs.Common.{◌≡◌, length, true, rules}
+use Rattle.std.proofs.Common.{◌≡◌, length, false, refl, true, rules, tests, arith}
+use Rattle.std.proofs.lemmas.Iterator.{YieldsList-from_range}
+use Rattle.std.proofs.lemmas.Iterator.Search.{any_from_yields_List}
 use Rattle.std.specs.List.{list_any}
 use Rattle.std.specs.Prelude.{option_map, slice_get}
 use Rattle.rst_tree.specs.declared.key.Key.TheVariants.{Ids}
@@ -15,8 +17,16 @@ loop-place-preserved c =
     let step : c.refer_back.new.links ≡ refers_back (at_place c.in_ok-notes.notes.items c.loop-place.place) (slice_get (list_of_attribute Ids (node_at c.loop-place.place c.loop-place.links)) 0) c.loop-place.links = search rules in
     rw (all_next (λ place state. refers_back (at_place c.in_ok-notes.notes.items place) (slice_get (list_of_attribute Ids (node_at place state)) 0) state) c.loop-place.place c.args.links.now, ← c.loop-place.invariant) step
 
+pub returns-then-not-any : goal.returns-then-not-any
+returns-then-not-any c =
+    let any : c.any.result ≡ list_any (λ place. refers_to_note (node_at place c.args.links.now)) (places_of c.args.links.now) =
+    any_from_yields_List (λ place. refers_to_note (node_at place c.args.links.now)) c.any.new.self _ c.any.result c.any.ensures.ran (YieldsList-from_range 0 c.len.result (length c.args.links.now.linked) refl (omega (arith, c.len.ensures))) (λ x b q k. search (rules, tests)) in
+    let none : list_any (λ place. refers_to_note (node_at place c.args.links.now)) (places_of c.args.links.now) ≡ false = search rules in rw none refl
+
 pub returns : goal.returns
 returns c =
+    let any : c.any.result ≡ list_any (λ place. refers_to_note (node_at place c.args.links.now)) (places_of c.args.links.now) =
+    any_from_yields_List (λ place. refers_to_note (node_at place c.args.links.now)) c.any.new.self _ c.any.result c.any.ensures.ran (YieldsList-from_range 0 c.len.result (length c.args.links.now.linked) refl (omega (arith, c.len.ensures))) (λ x b q k. search (rules, tests)) in
     let some : list_any (λ place. refers_to_note (node_at place c.args.links.now)) (places_of c.args.links.now) ≡ true = search rules in
     let past : c.loop-place.place ≡ length c.args.links.now.linked = search rules in
     rw (some, ← c.in_ok-notes.ensures) (rw past at c.loop-place.invariant)

@@ -2,8 +2,8 @@ use Rattle.std.proofs.Common.{◌≡◌, false, true, rules}
 use Rattle.std.specs.Prelude.{is_none, Some, None}
 use Rattle.rst_transform_references.specs.Holders.{holder_place, is_nobody}
 use Rattle.rst_transform_references.specs.Links.{node_at}
-use Rattle.rst_transform_references.specs.Resolving.{note_at, refers_to_note}
-use Rattle.rst_transform_references.proofs.Naming.{name_at, named}
+use Rattle.rst_transform_references.specs.Resolving.{name_at, note_at, refers_to_note}
+use Rattle.rst_transform_references.proofs.Naming.{named}
 use Rattle.rst_transform_references.proofs.resolve.resolve.Goals as goal
 use Rattle.rst_transform_references.proofs.resolve.resolve.Goals.{else-not-is_reference-via-else-not-is_reference, else-not-is_reference-via-then-not-is_reference+else-not-refers_to_note}
 
