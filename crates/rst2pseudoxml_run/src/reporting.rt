@@ -1,5 +1,5 @@
 //! The line by which a fault is reported.
-ghost use Rattle.std.specs.Prelude.{◌≡◌, ◌++◌, decimal, flat_map};
+ghost use Rattle.std.specs.Prelude.{◌≡◌, ◌++◌, flat_map};
 ghost use Rattle.rst_text.specs.Counted.{IsSent};
 ghost use Rattle.rst2pseudoxml_run.specs.Report.{fault_line_of, status_of, option_message, fault_line};
 
@@ -43,15 +43,18 @@ pub fn report<E: WriteCall>(stop: &Stop, err: &mut Counted<E>) -> u8
         }
         Stop::Ran(End::Done(status)) => *status,
         Stop::Ran(end) => {
+            let mut buffer = Buffer::new();
             match end {
                 End::Done(_) => {}
                 End::Read => say("read failed", err),
                 End::TooLong => say("input too long", err),
-                End::NotUtf8 { at } => say_number("not UTF-8 at byte ", *at, "", err),
+                End::NotUtf8 { at } => say_of("not UTF-8 at byte ", buffer.format(*at), "", err),
                 End::NoMemory => say("out of memory", err),
                 End::WriteErr { .. } => say("write failed", err),
                 End::WriteOut { .. } => say("write failed", err),
-                End::TooDeep { line } => say_number("line ", *line, ": nesting too deep", err),
+                End::TooDeep { line } => {
+                    say_of("line ", buffer.format(*line), ": nesting too deep", err);
+                }
             }
             1
         }
@@ -84,14 +87,6 @@ fn say_of<'a, E: WriteCall>(before: &'a str, named: &'a str, after: &'a str, err
     ensures { IsSent E.call_takes E.contents err.old err.new (fault_line (before.now ++ named.now ++ after.now)) }
 {
     write_pieces(&["rst2pseudoxml: ", before, named, after, "\n"], err);
-}
-
-/// Writes a fault's line that names a number.
-fn say_number<E: WriteCall>(before: &str, number: usize, after: &str, err: &mut Counted<E>)
-    ensures { IsSent E.call_takes E.contents err.old err.new (fault_line (before.now ++ decimal number ++ after.now)) }
-{
-    let mut buffer = Buffer::new();
-    say_of(before, buffer.format(number), after, err);
 }
 
 /// Writes the pieces, up to the first that fails.

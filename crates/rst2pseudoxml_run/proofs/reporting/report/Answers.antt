@@ -18,8 +18,8 @@ returns-in-Open-clause-line g c =
 
 pub returns-in-NotUtf8 : goal.returns-in-NotUtf8
 returns-in-NotUtf8 g c =
-    let P : List ℕ → Type 0 = λ message. IsSent g.E.WriteCall.call_takes g.E.Write.contents c.args.err.now c.say_number.new.err (fault_line message) in
-    rw (c.in-Ran.is, c.in-NotUtf8.is) (record { line = subst P (append-nil (codes "not UTF-8 at byte " ++ decimal c.in-NotUtf8.at)) c.say_number.ensures; status = refl })
+    let P : List ℕ → Type 0 = λ message. IsSent g.E.WriteCall.call_takes g.E.Write.contents c.args.err.now c.say_of-in-NotUtf8.new.err (fault_line message) in
+    rw (c.in-Ran.is, c.in-NotUtf8.is) (record { line = subst P (append-nil (codes "not UTF-8 at byte " ++ decimal c.in-NotUtf8.at)) (rw (c.format.ensures.text) at c.say_of-in-NotUtf8.ensures); status = refl })
 
 pub returns-in-Read : goal.returns-in-Read
 returns-in-Read g c = rw (c.in-Ran.is, c.in-Read.is) (record { line = c.say-in-Read.ensures; status = refl })
@@ -37,7 +37,7 @@ pub returns-in-WriteOut : goal.returns-in-WriteOut
 returns-in-WriteOut g c = rw (c.in-Ran.is, c.in-WriteOut.is) (record { line = c.say-in-WriteOut.ensures; status = refl })
 
 pub returns-in-TooDeep : goal.returns-in-TooDeep
-returns-in-TooDeep g c = rw (c.in-Ran.is, c.in-TooDeep.is) (record { line = c.say_number-in-TooDeep.ensures; status = refl })
+returns-in-TooDeep g c = rw (c.in-Ran.is, c.in-TooDeep.is) (record { line = rw (c.format-in-TooDeep.ensures.text) at c.say_of-in-TooDeep.ensures; status = refl })
 
 pub returns-in-Ran-Done-clause-line : goal.returns-in-Ran-Done-clause-line
 returns-in-Ran-Done-clause-line g c =
