@@ -3,8 +3,9 @@ ghost use Rattle.std.specs.Prelude.{◌<◌, ◌≤◌, ◌+◌, ◌≡◌, [], 
 ghost use Rattle.std.specs.Cow.{cow_str_bytes};
 ghost use Rattle.rst_text.specs.Escapes.{unescaped};
 ghost use Rattle.rst_inline_scan.specs.Pieces.{IsWithin};
+ghost use Rattle.rst_tree.specs.declared.tag.Tag.TheVariants.{Literal};
 ghost use Rattle.rst_inline.specs.declared.reading.Meaning.TheVariants.{One, Wrong};
-ghost use Rattle.rst_inline.specs.Elements.{text_element, inline_target_node, label_reference_node, substituted_node, uri_node};
+ghost use Rattle.rst_inline.specs.Elements.{text_element, reference_node, inline_target_node, label_reference_node, substituted_node, uri_node};
 ghost use Rattle.rst_inline.specs.Embedded.{meant, phrase_display_text};
 ghost use Rattle.rst_inline.specs.Parts.{part, source, content};
 ghost use Rattle.rst_inline.specs.Readings.{plain_meaning, plain_reading, embedded_reading, phrase_reading, role_reading, has_prefix_role, interpreted_reading, reading};
@@ -59,8 +60,18 @@ impl Written<'_> {
     }
 
     #[inline(never)]
-    fn inline_target(&self, piece: Piece) -> Result<Node>
-        ensures { IfOk result (λ node. node ≡ inline_target_node (unescaped (content self.now.characters.items piece)) self.now.line) }
+    fn literal(&self, piece: Piece) -> Result<Meaning>
+        ensures { IfOk result (λ reading. reading ≡ One (text_element Literal [] (content self.now.characters.items piece) self.now.line)) }
+    {
+        let display_text = self.part(piece.content_from, piece.content_to);
+        let attrs = Vec::new(self.alloc);
+        let node = element(self.alloc, Tag::Literal, attrs, display_text, self.line)?;
+        Ok(Meaning::One(node))
+    }
+
+    #[inline(never)]
+    fn inline_target(&self, piece: Piece) -> Result<Meaning>
+        ensures { IfOk result (λ reading. reading ≡ One (inline_target_node (unescaped (content self.now.characters.items piece)) self.now.line)) }
     {
         let display_text = self.unescaped(piece.content_from, piece.content_to)?;
         let display_text = display_text.as_str();
@@ -68,13 +79,14 @@ impl Written<'_> {
             Entry::new(Key::Inline, Value::Number(1)),
             Entry::new(Key::OwnName, name_value(self.alloc, display_text)?),
         ]?;
-        element(self.alloc, Tag::Target, attrs, display_text, self.line)
+        let node = element(self.alloc, Tag::Target, attrs, display_text, self.line)?;
+        Ok(Meaning::One(node))
     }
 
     #[inline(never)]
-    fn substituted(&self, suffix: Suffix, piece: Piece) -> Result<Node>
+    fn substituted(&self, suffix: Suffix, piece: Piece) -> Result<Meaning>
         requires { IsWithin self.now.characters.items piece }
-        ensures { IfOk result (λ node. node ≡ substituted_node suffix (part self.now.characters.items piece.from (piece.content_to + 1)) (source self.now.characters.items piece) (unescaped (content self.now.characters.items piece)) self.now.line) }
+        ensures { IfOk result (λ reading. reading ≡ One (substituted_node suffix (part self.now.characters.items piece.from (piece.content_to + 1)) (source self.now.characters.items piece) (unescaped (content self.now.characters.items piece)) self.now.line)) }
     {
         let display_text = self.unescaped(piece.content_from, piece.content_to)?;
         let display_text = display_text.as_str();
@@ -87,13 +99,14 @@ impl Written<'_> {
         ]?;
         let tag = Tag::SubstitutionReference;
         let node = element(self.alloc, tag, attrs, display_text, self.line)?;
-        match suffix {
-            Suffix::Bare => Ok(node),
+        let node = match suffix {
+            Suffix::Bare => node,
             _ => {
                 let outer = self.part(piece.from, piece.to);
-                outer_reference(self.alloc, suffix, outer, display_text, node, self.line)
+                outer_reference(self.alloc, suffix, outer, display_text, node, self.line)?
             }
-        }
+        };
+        Ok(Meaning::One(node))
     }
 
     /// What an embedded URI or alias between two places refers to.
@@ -278,17 +291,29 @@ impl Written<'_> {
         }
     }
 
+    /// A reference by a simple name.
+    #[inline(never)]
+    fn named(&self, suffix: Suffix, piece: Piece) -> Result<Meaning>
+        ensures { IfOk result (λ reading. let display_text = content self.now.characters.items piece in reading ≡ One (reference_node suffix (source self.now.characters.items piece) display_text display_text self.now.line)) }
+    {
+        let source = self.part(piece.from, piece.to);
+        let name = self.part(piece.content_from, piece.content_to);
+        let node = reference(self.alloc, suffix, source, name, self.line)?;
+        Ok(Meaning::One(node))
+    }
+
     /// A standalone URI.
     #[inline(never)]
-    fn uri(&self, piece: Piece) -> Result<Node>
-        ensures { IfOk result (λ node. node ≡ uri_node (source self.now.characters.items piece) self.now.line) }
+    fn uri(&self, piece: Piece) -> Result<Meaning>
+        ensures { IfOk result (λ reading. reading ≡ One (uri_node (source self.now.characters.items piece) self.now.line)) }
     {
         let source = self.part(piece.from, piece.to);
         let attrs = vec![in self.alloc;
             Entry::new(Key::Rawsource, text_value(self.alloc, source)?),
             Entry::new(Key::Refuri, text_value(self.alloc, source)?),
         ]?;
-        element(self.alloc, Tag::Reference, attrs, source, self.line)
+        let node = element(self.alloc, Tag::Reference, attrs, source, self.line)?;
+        Ok(Meaning::One(node))
     }
 
     /// What a piece of the text means.
@@ -305,16 +330,9 @@ impl Written<'_> {
             },
             Kind::Marked(Markup::Strong, _) => self.text_element_of(Tag::Strong, piece),
             Kind::Marked(Markup::Emphasis, _) => self.text_element_of(Tag::Emphasis, piece),
-            Kind::Marked(Markup::Literal, _) => {
-                let display_text = self.part(piece.content_from, piece.content_to);
-                let attrs = Vec::new(self.alloc);
-                let node = element(self.alloc, Tag::Literal, attrs, display_text, self.line)?;
-                Ok(Meaning::One(node))
-            }
-            Kind::Marked(Markup::Target, _) => Ok(Meaning::One(self.inline_target(piece)?)),
-            Kind::Marked(Markup::Substitution, suffix) => {
-                Ok(Meaning::One(self.substituted(suffix, piece)?))
-            }
+            Kind::Marked(Markup::Literal, _) => self.literal(piece),
+            Kind::Marked(Markup::Target, _) => self.inline_target(piece),
+            Kind::Marked(Markup::Substitution, suffix) => self.substituted(suffix, piece),
             Kind::Marked(Markup::Interpreted, suffix) => self.interpreted(suffix, piece),
             Kind::Unended(markup) => {
                 let phrase = match markup {
@@ -328,13 +346,8 @@ impl Written<'_> {
                 Ok(Meaning::Wrong(Level::Warning, Text::of_phrase(self.alloc, phrase)))
             }
             Kind::Label => Ok(Meaning::One(self.label(piece)?)),
-            Kind::Reference(suffix) => {
-                let source = self.part(piece.from, piece.to);
-                let name = self.part(piece.content_from, piece.content_to);
-                let node = reference(self.alloc, suffix, source, name, self.line)?;
-                Ok(Meaning::One(node))
-            }
-            Kind::Uri => Ok(Meaning::One(self.uri(piece)?)),
+            Kind::Reference(suffix) => self.named(suffix, piece),
+            Kind::Uri => self.uri(piece),
         }
     }
 }
