@@ -38,6 +38,13 @@ pub fn with_text(
 {
     let first = numbers.given();
     let Pieces { nodes, notes } = inline_from(alloc, text, text_line, first)?;
+    // Most texts have no messages.
+    if notes.is_empty() {
+        return Ok(Texted {
+            element: element_of(tag, Attrs::new(alloc), nodes, line),
+            notes: Vec::new(alloc),
+        });
+    }
     numbers.give(notes.len());
     let notes = messages_of(alloc, notes, first)?;
     let attrs = counting(alloc, notes.len())?;
@@ -48,8 +55,6 @@ pub fn with_text(
 }
 
 /// The messages of a text as nodes, numbered from the first on.
-// Most texts have no messages, and then need no call.
-#[inline(always)]
 #[tactic(auto, using(crate::proofs::MessageLemmas::messages_from_append, crate::proofs::MessageLemmas::number_after_append))]
 pub(crate) fn messages_of(alloc: Global, notes: Vec<Note>, first: u64) -> Result<Vec<Node>>
     ensures { IfOk result (λ messages. messages.items ≡ messages_from first notes.items) }
@@ -67,7 +72,6 @@ pub(crate) fn messages_of(alloc: Global, notes: Vec<Note>, first: u64) -> Result
 }
 
 /// The attribute with the number of messages that an element's text has, if it has some.
-#[inline(always)]
 pub(crate) fn counting(alloc: Global, notes: usize) -> Result<Attrs>
     ensures { IfOk result (λ attrs. attrs ≡ counting notes) }
 {
