@@ -1,5 +1,6 @@
 pub mod BudgetLemmas
 pub mod CellFacts
+pub mod Begins
 pub mod CellsRead
 pub mod DocumentLooks
 pub mod InsideReads

@@ -136,17 +136,16 @@ unfolding most_in least_in
 text_begins S fs l B before e = record { no_more = omega (arith, ap (most_in S) e); no_less = omega (arith, ap (least_in S) e) }
 
 -- before the first line of a block that isn't below the last level all is left
-pub first_line : (old new : OpenBlock) (B : Block) (s : Step) (before after : ℕ) → IsNew old → old.depth ≤ deepest
-    → Takes (most_left old B Next) (least_left old B Next) before (most_left new B s) (least_left new B s) after
-    → Takes (most_left old B Begin) (least_left old B Begin) before (most_left new B s) (least_left new B s) after
+pub first_line : (l : OpenBlock) (B : Block) (looks : ℕ) → IsNew l → l.depth ≤ deepest
+    → Takes (most_left l B Begin) (least_left l B Begin) looks (most_left l B Next) (least_left l B Next) looks
 unfolding sum_of
-first_line old new B s before after new_old h t =
-    let b = begun old.depth B h in
-    let m : most_from old.depth B old.at ≡ most_from old.depth B 0 = ap (most_from old.depth B) new_old.at in
-    let n : least_from old.depth B old.at ≡ least_from old.depth B 0 = ap (least_from old.depth B) new_old.at in
+first_line l B looks new h =
+    let b = begun l.depth B h in
+    let m : most_from l.depth B l.at ≡ most_from l.depth B 0 = ap (most_from l.depth B) new.at in
+    let n : least_from l.depth B l.at ≡ least_from l.depth B 0 = ap (least_from l.depth B) new.at in
     record {
-      no_more = omega (arith, t.no_more, b.most, m, ap run_looks (none_open old.run new_old.run));
-      no_less = omega (arith, t.no_less, b.least, n);
+      no_more = omega (arith, b.most, m, ap run_looks (none_open l.run new.run));
+      no_less = omega (arith, b.least, n);
     }
 
 -- the block that is read takes looks

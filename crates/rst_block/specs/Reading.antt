@@ -1,5 +1,5 @@
 -- What is read of a text, and what is left of it, between the tables in it.
-use Rattle.std.specs.Prelude.{◌≡◌, ℕ, zero, suc, ◌+◌, ◌-◌, ◌*◌, ◌^◌, ◌≤◌, List, [], ◌∷◌, length, drop, map, Option, Some, None, Result, IfOk}
+use Rattle.std.specs.Prelude.{◌≡◌, ℕ, zero, suc, ◌+◌, ◌-◌, ◌*◌, ◌^◌, ◌≤◌, List, [], ◌∷◌, length, drop, map, Option, Some, None, Result, IfOk, nat_le, if◌then◌else◌}
 use Rattle.rst_text.specs.Block.{Block}
 use Rattle.rst_text.specs.ViewBlock.{block_of, source_of, placement_block}
 use Rattle.rst_text.specs.declared.view.View.{View}
@@ -7,7 +7,7 @@ use Rattle.rst_markup_blocks.specs.declared.part.Part.{Part}
 use Rattle.rst_markup_tables.specs.declared.results.TableResult.{TableResult}
 use Rattle.rst_block_state.specs.machine.Frames.{AreFrames, AreNested, IsNow}
 use Rattle.rst_block_state.specs.looks.Ledger.{Takes, least_left, most_left}
-use Rattle.rst_block_state.specs.machine.Meanings.{Keeps, comes}
+use Rattle.rst_block_state.specs.machine.Meanings.{Keeps, comes, deepest}
 use Rattle.rst_block_state.specs.Numbered.{Numbered}
 use Rattle.rst_block_state.specs.Titles.{Item}
 use Rattle.rst_block_nodes.specs.declared.fault.BlockFault.{BlockFault}
@@ -21,6 +21,10 @@ use Rattle.rst_block_state.specs.declared.texts.Pass.{Pass}
 abbrev pub found_step : Option TableResult → Step
 found_step None = Done
 found_step (Some table) = Cells table
+
+-- what comes in a block inside this many: its next line, or below the last level the test that it is blank
+abbrev pub first_step : ℕ → Step
+first_step depth = if nat_le depth deepest then Next else Begin
 
 -- A block goes on after a call: it is as deep as before, what still comes is what was given before, and of the looks that may be taken and have to be
 -- taken the call took some.

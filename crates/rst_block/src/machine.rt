@@ -17,7 +17,7 @@ ghost use Rattle.rst_block_state.specs.Numbered.{each, just};
 ghost use Rattle.rst_block_state.specs.Tables as tables;
 ghost use Rattle.rst_block_state.specs.looks.Ledger.{Takes, TakesFor, least_in, least_left, most_in, most_left, total_at, totals};
 ghost use Rattle.rst_block_state.specs.Inside.{cell_blocks};
-ghost use Rattle.rst_block.specs.Reading.{ContinuesFrom, IsReading, found_step, text_left};
+ghost use Rattle.rst_block.specs.Reading.{ContinuesFrom, IsReading, cost, first_step, found_step, text_left};
 ghost use Rattle.rst_markup_tables.specs.declared.results.TableResult.TheVariants.{Table};
 
 use super::ended::closed;
@@ -56,14 +56,12 @@ pub(crate) fn read(
     let depth = level.depth;
     let base = frames.len();
     let mut view = whole;
-    let mut now = Step::Begin;
     loop {
-        match read_on(&whole, &mut view, level, now, depth, base, frames, pass)? {
+        match read_on(&whole, &mut view, level, depth, base, frames, pass)? {
             None => return Ok(()),
             Some(table) => {
                 let inner = level.depth + 1;
                 cells(&view, level, table, inner, frames, pass)?;
-                now = Step::Next;
             }
         }
     }
@@ -77,28 +75,29 @@ fn read_on<'a>(
     whole: &View<'a>,
     view: &mut View<'a>,
     level: &mut OpenBlock,
-    mut now: Step,
     depth: usize,
     base: usize,
     frames: &mut Frames,
     pass: &mut Pass,
 ) -> Result<Option<TableResult>>
-    requires reading { IsReading depth base (source_of whole.now) frames.old level.old view.old now }
+    requires reading { IsReading depth base (source_of whole.now) frames.old level.old view.old (first_step level.old.depth) }
     ensures reading { IfOk result (λ found. IsReading depth base (source_of whole.now) frames.new level.new view.new (found_step found)) }
     ensures outer { IfOk result (λ _. take base frames.new ≡ take base frames.old) }
     ensures last { IfOk result (λ found. IfNone found (length frames.new ≡ base)) }
     ensures less { let S = source_of whole.now in
-        IfOk result (λ found. text_left depth base S frames.new level.new view.new (found_step found) ≤ text_left depth base S frames.old level.old view.old now) }
+        IfOk result (λ found. text_left depth base S frames.new level.new view.new (found_step found) ≤ text_left depth base S frames.old level.old view.old (first_step level.old.depth)) }
     ensures read { let S = source_of whole.now in
         Keeps result (λ found. plug S (drop base frames.new) (comes level.new (block_of view.new) (found_step found)) pass.new.numbers)
-        (plug S (drop base frames.old) (comes level.old (block_of view.old) now) pass.old.numbers) }
+        (plug S (drop base frames.old) (comes level.old (block_of view.old) (first_step level.old.depth)) pass.old.numbers) }
     ensures paid { let S = source_of whole.now in
+        let now = first_step level.old.depth in
         let most = most_in S (drop base frames.old) + most_left level.old (block_of view.old) now in
         let least = least_in S (drop base frames.old) + least_left level.old (block_of view.old) now in
         IfOk result (λ found. let B = block_of view.new in
         let s = found_step found in
         Takes most least pass.old.looks (most_in S (drop base frames.new) + most_left level.new B s) (least_in S (drop base frames.new) + least_left level.new B s) pass.new.looks) }
 {
+    let mut now = first_step(level);
     loop {
         let inner = depth + (frames.len() - base) + 1;
         now = match now {
@@ -113,7 +112,7 @@ fn read_on<'a>(
                 let frame = opened(pass.alloc, view, level, waits, second, inner);
                 frames.push(pass.alloc, frame)?;
                 *view = inside(view, first);
-                Step::Begin
+                first_step(level)
             }
             Step::Done => match frames.pop(base) {
                 None => return Ok(None),
@@ -121,7 +120,7 @@ fn read_on<'a>(
                     Ended::Waiting(frame, part) => {
                         frames.push(pass.alloc, frame)?;
                         *view = part;
-                        Step::Begin
+                        first_step(level)
                     }
                     Ended::GoesOn(outer, next) => {
                         *view = outer;
@@ -133,25 +132,32 @@ fn read_on<'a>(
     }
 }
 
-/// What comes first in a block of which nothing was read. Below the last level it must be blank.
-#[inline(never)]
-fn begin(view: &View<'_>, level: &mut OpenBlock, pass: &mut Pass) -> Result<Step>
-    requires new { IsNew level.old }
-    requires depth { level.old.depth ≤ 251 }
-    ensures now { IfOk result (λ s. IsNow (block_of view.now) level.new s) }
-    ensures next { IfOk result (λ s. spec.IsNext (block_of view.now) level.old.at level.new.at s) }
-    ensures goes { ContinuesFrom (block_of view.now) level.old Begin pass.old level.new pass.new result }
+/// How a block begins or goes on that is read from here: with its next line, unless it is below the last level.
+fn first_step(level: &OpenBlock) -> Step
+    ensures { result ≡ first_step level.now.depth }
+{
+    if DEEPEST < level.depth {
+        return Step::Begin;
+    }
+    Step::Next
+}
+
+/// What comes first in a block of which nothing was read: its first line. Below the last level it must be blank.
+fn begin(view: &View<'_>, level: &OpenBlock, pass: &mut Pass) -> Result<Step>
+    requires new { IsNew level.now }
+    requires depth { level.now.depth ≤ 251 }
+    ensures now { IfOk result (λ s. IsNow (block_of view.now) level.now s) }
+    ensures less { let n = length (block_of view.now) in IfOk result (λ s. cost n level.now.at s < cost n level.now.at Begin) }
+    ensures goes { ContinuesFrom (block_of view.now) level.now Begin pass.old level.now pass.new result }
 {
     if level.depth <= DEEPEST {
-        return next(view, level, pass);
+        return Ok(Step::Next);
     }
     not_blank(view, pass)?;
     Ok(Step::Done)
 }
 
 /// What comes in a block after the constructs that are read at once: one that waits for a block inside, or the block's end.
-// Most lines pass through it, so a call would cost more than its code at two places.
-#[inline(always)]
 #[tactic(auto, using(rst_block_state::proofs::Views::few_lines, crate::proofs::Stack::next_of_step))]
 fn next(view: &View<'_>, level: &mut OpenBlock, pass: &mut Pass) -> Result<Step>
     ensures next { IfOk result (λ s. spec.IsNext (block_of view.now) level.old.at level.new.at s) }

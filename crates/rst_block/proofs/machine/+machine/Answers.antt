@@ -12,12 +12,14 @@ use Rattle.rst_markup_tables.specs.declared.results.TableResult.TheVariants.{Tab
 use Rattle.rst_block_nodes.specs.Elements.{element_of}
 use Rattle.rst_block_state.specs.Inside.{cell_blocks}
 use Rattle.rst_block_state.specs.looks.Ledger.{TakesFor, total_at, totals}
-use Rattle.rst_block_state.specs.machine.Meanings.{comes, done_of, reads, text_items, within_at}
+use Rattle.rst_block_state.specs.machine.Meanings.{comes, deepest, done_of, reads, text_items, within_at}
 use Rattle.rst_block_state.specs.Numbered.{just, then_read}
 use Rattle.rst_block_state.specs.Tables.{entry_of, row_of, table_node}
 use Rattle.rst_block_state.specs.declared.frame.Frame.{Frame}
 use Rattle.rst_block_state.specs.declared.step.Step.TheVariants.{Begin, Next, Cells}
 use Rattle.rst_block_state.proofs.Calls.{refuses}
+use Rattle.rst_block.specs.Reading.{first_step}
+use Rattle.rst_block.proofs.Begins.{first_now, first_comes, first_paid, first_next}
 use Rattle.rst_block.proofs.CellsRead.{each_begins, each_ends, each_goes_on, each_keeps, entries_keep, entry_next, table_keeps, then_keeps, table_reads}
 use Rattle.rst_block.proofs.MachinePaid.{none_read, some_read, next_cell, row_paid, next_row, rows_paid, table_paid, text_begins, block_goes_on, text_ends}
 use Rattle.rst_block.proofs.Stack.{below, goes_on}
@@ -27,6 +29,9 @@ use Rattle.rst_block.proofs.machine.+machine.Goals as goal
 
 pub read-loop-table-init : goal.read-loop-table-init
 read-loop-table-init t c =
+    let S : Block = source_of c.whole-whole.result in
+    let B : Block = block_of c.whole-whole.result in
+    let l = c.args.level.now in
     let base : ℕ = c.len-base.result in
     let all : length c.args.frames.now ≤ base = omega (arith, c.len-base.ensures) in
     let none : drop base c.args.frames.now ≡ [] = drop_all base c.args.frames.now all in
@@ -37,13 +42,15 @@ read-loop-table-init t c =
         room = omega (arith, c.len-base.ensures, c.requires.depth);
         waiting = rw none tt;
         text = refl;
-        now = (c.requires.new, c.requires.depth);
+        now = first_now B l c.requires.new c.requires.depth;
         depth = omega (arith, c.len-base.ensures);
         nested = rw none tt;
       };
       outer = take_all base c.args.frames.now all;
-      read = plug_alone (source_of c.whole-whole.result) (drop base c.args.frames.now) (comes c.args.level.now (block_of c.whole-whole.result) Begin) c.args.pass.now.numbers none;
-      paid = text_begins (source_of c.whole-whole.result) (drop base c.args.frames.now) c.args.level.now (block_of c.whole-whole.result) c.args.pass.now.looks none;
+      read = plug_goes_on S (drop base c.args.frames.now) (comes l B (first_step l.depth)) (comes l B Begin) c.args.pass.now.numbers c.args.pass.now.numbers _
+          (first_comes l B c.args.pass.now.numbers c.requires.new) (plug_alone S (drop base c.args.frames.now) (comes l B Begin) c.args.pass.now.numbers none);
+      paid = block_goes_on _ _ S (drop base c.args.frames.now) l l B Begin (first_step l.depth) _ _ _ (text_begins S (drop base c.args.frames.now) l B c.args.pass.now.looks none)
+          (first_paid l B _ c.requires.new);
     }
 
 pub read-loop-table-smaller : goal.read-loop-table-smaller
@@ -52,7 +59,8 @@ read-loop-table-smaller t c =
     let h = rw c.in-Some.is at c.in_ok-read_on.ensures.reading in
     let less = rw c.in-Some.is at c.in_ok-read_on.ensures.less in
     let n : ℕ = length (block_of c.read_on.new.view) in
-    rw c.in_ok-cells-in-Some.ensures.frames (below (goes_on (2 ^ 64) (251 - c.args.level.now.depth) S (drop c.len-base.result c.read_on.new.frames)
+    let next = first_next c.cells.new.level.depth (omega (arith, c.in_ok-cells-in-Some.ensures.kept, h.now.0)) in
+    rw (next, c.in_ok-cells-in-Some.ensures.frames) (below (goes_on (2 ^ 64) (251 - c.args.level.now.depth) S (drop c.len-base.result c.read_on.new.frames)
     n c.read_on.new.level.at n c.cells.new.level.at (Cells c.in-Some.table) Next (omega (arith, h.now.1, c.in_ok-cells-in-Some.ensures.later))) less)
 
 pub read-loop-table-preserved : goal.read-loop-table-preserved
@@ -64,12 +72,14 @@ read-loop-table-preserved t c =
     let read = rw c.in-Some.is at c.in_ok-read_on.ensures.read in
     let paid = rw c.in-Some.is at c.in_ok-read_on.ensures.paid in
     let same : c.cells.new.frames ≡ c.read_on.new.frames = c.in_ok-cells-in-Some.ensures.frames in
+    let low : c.cells.new.level.depth ≤ deepest = omega (arith, c.in_ok-cells-in-Some.ensures.kept, h.now.0) in
+    let next = first_next c.cells.new.level.depth low in
     record {
-      reading = rw same (record { base = h.base; under = h.under; room = h.room; waiting = h.waiting; text = h.text; now = omega (arith, c.in_ok-cells-in-Some.ensures.kept, h.now.0); depth = c.in_ok-cells-in-Some.ensures.kept ∙ h.depth; nested = h.nested });
+      reading = rw (next, same) (record { base = h.base; under = h.under; room = h.room; waiting = h.waiting; text = h.text; now = low; depth = c.in_ok-cells-in-Some.ensures.kept ∙ h.depth; nested = h.nested });
       outer = rw same (c.in_ok-read_on.ensures.outer ∙ c.loop-table.invariant.outer);
-      read = rw same (plug_goes_on S fs (reads c.cells.new.level B) (comes c.read_on.new.level B (Cells c.in-Some.table)) c.cells.new.pass.numbers c.read_on.new.pass.numbers _ c.in_ok-cells-in-Some.ensures.read
+      read = rw (next, same) (plug_goes_on S fs (reads c.cells.new.level B) (comes c.read_on.new.level B (Cells c.in-Some.table)) c.cells.new.pass.numbers c.read_on.new.pass.numbers _ c.in_ok-cells-in-Some.ensures.read
           (read ∙ c.loop-table.invariant.read));
-      paid = rw same (block_goes_on _ _ S fs c.read_on.new.level c.cells.new.level B (Cells c.in-Some.table) Next _ _ _ (takes_then c.loop-table.invariant.paid paid) c.in_ok-cells-in-Some.ensures.paid);
+      paid = rw (next, same) (block_goes_on _ _ S fs c.read_on.new.level c.cells.new.level B (Cells c.in-Some.table) Next _ _ _ (takes_then c.loop-table.invariant.paid paid) c.in_ok-cells-in-Some.ensures.paid);
     }
 
 pub read-returns-in-None-clause-read : goal.read-returns-in-None-clause-read

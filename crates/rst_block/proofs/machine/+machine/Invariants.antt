@@ -7,7 +7,7 @@ use Rattle.rst_block_state.specs.looks.Ledger.{total_at, totals}
 use Rattle.rst_block_state.specs.machine.Meanings.{comes, plug, text_items, within_at}
 use Rattle.rst_block_state.specs.Numbered.{each}
 use Rattle.rst_block_state.specs.Tables.{entry_of, row_of}
-use Rattle.rst_block.specs.Reading.{IsReading, text_left}
+use Rattle.rst_block.specs.Reading.{IsReading, first_step, text_left}
 use Rattle.rst_block.proofs.CellsRead.{each_after}
 use Rattle.rst_block.proofs.MachinePaid.{AreLeft, cell_lines, row_lines, IsPaidFor}
 use Rattle.rst_block.proofs.machine.+machine.Given as goal
@@ -27,14 +27,14 @@ decreases-entries_of l = 5 * (251 - l.depth) + 3
 -- the blocks that wait make of what comes in the block that is read all that the text gives
 abbrev pub invariant-read-loop-table : goal.invariant-read-loop-table
 invariant-read-loop-table l = record {
-  reading : IsReading l.depth l.base (source_of l.whole) l.frames l.level l.view l.now;
+  reading : IsReading l.depth l.base (source_of l.whole) l.frames l.level l.view (first_step l.level.depth);
   outer : take l.base l.frames ≡ l.fn.frames;
-  read : plug (source_of l.whole) (drop l.base l.frames) (comes l.level (block_of l.view) l.now) l.pass.numbers ≡ text_items l.depth (block_of l.whole) l.fn.pass.numbers;
-  paid : IsPaidFor (128 * total_at l.depth (block_of l.whole)) (total_at l.depth (block_of l.whole)) (source_of l.whole) (drop l.base l.frames) l.level (block_of l.view) l.now l.fn.pass.looks l.pass.looks;
+  read : plug (source_of l.whole) (drop l.base l.frames) (comes l.level (block_of l.view) (first_step l.level.depth)) l.pass.numbers ≡ text_items l.depth (block_of l.whole) l.fn.pass.numbers;
+  paid : IsPaidFor (128 * total_at l.depth (block_of l.whole)) (total_at l.depth (block_of l.whole)) (source_of l.whole) (drop l.base l.frames) l.level (block_of l.view) (first_step l.level.depth) l.fn.pass.looks l.pass.looks;
 }
 
 abbrev pub decreases-read-loop-table : goal.decreases-read-loop-table
-decreases-read-loop-table l = text_left l.depth l.base (source_of l.whole) l.frames l.level l.view l.now
+decreases-read-loop-table l = text_left l.depth l.base (source_of l.whole) l.frames l.level l.view (first_step l.level.depth)
 
 abbrev pub invariant-rows_of-loop-cells : goal.invariant-rows_of-loop-cells
 invariant-rows_of-loop-cells l = record {

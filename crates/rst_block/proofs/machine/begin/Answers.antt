@@ -1,13 +1,10 @@
-use Rattle.std.proofs.Common.{◌≡◌, suc, ◌≤◌, arith, rules, sym, ◌∙◌, ap}
-use Rattle.std.proofs.lemmas.Result.{IfOk-weaker}
+use Rattle.std.proofs.Common.{◌≡◌, suc, ◌≤◌, arith, rules, refl, sym, ◌∙◌, ap}
 use Rattle.rst_text.specs.ViewBlock.{block_of}
 use Rattle.rst_block_state.specs.machine.Meanings.{deepest, done_of}
 use Rattle.rst_block_state.specs.Numbered.{just}
-use Rattle.rst_block_state.proofs.Calls.{keeps_as}
 use Rattle.rst_block_state.proofs.MeaningLemmas.{reads_all}
 use Rattle.rst_block.proofs.LastLevel.{flat_text, flat_text_fails}
 use Rattle.rst_block.proofs.MachinePaid.{first_line, flat_paid}
-use Rattle.rst_block.proofs.Stack.{now_of_next}
 use Rattle.rst_block.proofs.Waiting.{stops}
 use Rattle.rst_block.proofs.machine.begin.Goals as goal
 
@@ -17,12 +14,12 @@ returns-then-level-le-DEEPEST c =
     let l = c.args.level.now in
     let high : l.depth ≤ deepest = c.if-level-le-DEEPEST.true in
     record {
-      now = search rules;
-      next = c.next.ensures.next;
+      now = high;
+      less = omega arith;
       goes = record {
-        kept = c.next.ensures.goes.kept;
-        read = keeps_as c.next.result _ _ _ (reads_all l B c.args.pass.now.numbers c.requires.new high) c.next.ensures.goes.read;
-        paid = IfOk-weaker c.next.result _ _ (λ s h. first_line l c.next.new.level B s _ _ c.requires.new high h) c.next.ensures.goes.paid;
+        kept = refl;
+        read = reads_all l B c.args.pass.now.numbers c.requires.new high;
+        paid = first_line l B _ c.requires.new high;
       };
     }
 
