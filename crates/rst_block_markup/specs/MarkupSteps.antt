@@ -1,5 +1,5 @@
 -- Explicit markup, step by step: what a block gives where its next line begins some, and directives as they are kept. No rule of markup.
-use Rattle.std.specs.Prelude.{ℕ, ◌<◌, length, drop, Bool, true, false, List, Option, Some, None, Result, IfOk}
+use Rattle.std.specs.Prelude.{ℕ, ◌<◌, length, drop, Bool, true, false, List, Option, Some, None, Result, IfOk, if◌then◌else◌}
 use Rattle.rst_text.specs.Block.{Block, first_number}
 use Rattle.rst_tree.specs.declared.node.Node.{Node}
 use Rattle.rst_markup_directives.specs.Argument.{ArgumentMeaning, given_in}
@@ -8,6 +8,8 @@ use Rattle.rst_markup_directives.specs.Directive.{Read}
 use Rattle.rst_markup_directives.specs.Kind.{is_paragraph}
 use Rattle.rst_markup_directives.specs.Options.{choices_in}
 use Rattle.rst_markup_directives.specs.declared.found.Content.{Content}
+use Rattle.rst_markup_directives.specs.declared.found.Place.{Place}
+use Rattle.rst_markup_directives.specs.declared.found.Place.TheVariants.{Top, Body}
 use Rattle.rst_markup_directives.specs.declared.kind.Kind.{Kind}
 use Rattle.rst_block_state.specs.Constructs.{explicit_markup}
 use Rattle.rst_block_state.specs.Directives.{content_nodes, right_by}
@@ -65,6 +67,10 @@ made_of_content c B content make = do
 abbrev pub takes_paragraph : Option Kind → Bool
 takes_paragraph (Some kind) = is_paragraph kind.content
 takes_paragraph None = false
+
+-- where a directive is: in the document itself where titles are recognized, else in a body
+abbrev pub place_in : Bool → Place
+place_in titles = if titles then Top else Body
 
 -- a right directive, as it is kept
 abbrev pub read_of_directive : Found → Read

@@ -1,5 +1,5 @@
 //! Directives as blocks (Markup Specification, 'Directives').
-ghost use Rattle.std.specs.Prelude.{◌≡◌, ℕ, ◌+◌, ◌-◌, ◌*◌, ◌<◌, ◌≤◌, ◌==◌, [], true, length, drop, slice_range, option_map, Some, Ok, IfOk, if◌then◌else◌};
+ghost use Rattle.std.specs.Prelude.{◌≡◌, ℕ, ◌+◌, ◌-◌, ◌*◌, ◌<◌, ◌≤◌, ◌==◌, [], true, length, drop, slice_range, option_map, Some, Ok, IfOk};
 ghost use Rattle.std.specs.Str.{chars};
 ghost use Rattle.rst_text.specs.Block.{Block, first_number};
 ghost use Rattle.rst_text.specs.Looked.{Looked, capped};
@@ -12,12 +12,11 @@ ghost use Rattle.rst_markup_directives.specs.Wrong.{fault_in};
 ghost use Rattle.rst_block_nodes.specs.Options.{directive_element};
 ghost use Rattle.rst_block_nodes.specs.Sections.{filled};
 ghost use Rattle.rst_block_state.specs.Directives as meaning;
-ghost use Rattle.rst_block_markup.specs.MarkupSteps.{IsDirectiveRead, IsPartRead, IsRight, read_of_directive};
+ghost use Rattle.rst_block_markup.specs.MarkupSteps.{IsDirectiveRead, IsPartRead, IsRight, place_in, read_of_directive};
 ghost use Rattle.rst_block_state.specs.machine.Meanings.{within_at};
 ghost use Rattle.rst_block_state.specs.Numbered.{just};
 ghost use Rattle.rst_markup_directives.specs.Call.{IsArgumentIn, IsDirectiveIn};
 ghost use Rattle.rst_markup_directives.specs.declared.found.Place.{Place};
-ghost use Rattle.rst_markup_directives.specs.declared.found.Place.TheVariants.{Top, Body};
 ghost use Rattle.rst_markup_blocks.specs.Parts.{IsBlock, IsCall};
 ghost use Rattle.rst_block_state.specs.machine.OpenBlocks.{Gives, IsMoved};
 ghost use Rattle.rst_block_state.specs.Paragraphs.{is_single_paragraph};
@@ -103,18 +102,13 @@ pub(crate) fn directive_block(
     ensures { let B = block_of view.now in
         let end = invocation.now.block.to in
         let nodes = meaning.directive_nodes (within_at level.old.depth) B (record { start = level.old.at; stop = end }) invocation.now in
-        let outcome = meaning.called (unread_at level.old.depth) B level.old.at invocation.now (if level.old.depth == 0 then Top else Body) in
+        let outcome = meaning.called (unread_at level.old.depth) B level.old.at invocation.now (place_in (level.old.depth == 0)) in
         let few = 18 * (end - level.old.at) in
         IsPartRead few B level.old pass.old nodes (directive_blocks outcome B) end level.new pass.new result }
 {
     let at = level.at;
     let end = invocation.block.to;
-    let place = if level.titles() {
-        Place::Top
-    } else {
-        Place::Body
-    };
-    match directive_at(view, at, invocation, place, pass)? {
+    match directive_at(view, at, invocation, place_in(level.titles()), pass)? {
         Directive::Wrong { fault, .. } => {
             let name = excerpt(pass.alloc, view.line(at, &mut pass.looks), invocation.name)?;
             let name = name.as_str();
@@ -137,6 +131,13 @@ pub(crate) fn directive_block(
             directive_nodes(view, level, &found, pass)
         }
     }
+}
+
+/// Where a directive of a block is, by whether titles are allowed there.
+fn place_in(titles: bool) -> Place
+    ensures { result ≡ place_in titles }
+{
+    if titles { Place::Top } else { Place::Body }
 }
 
 /// A right directive, which ends at `end`.

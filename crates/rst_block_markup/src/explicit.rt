@@ -30,9 +30,9 @@ use rst_block_state::{
 };
 use rst_markup_blocks::{CommentCause, Explicit, Part, explicit};
 use rst_markup_lines::{Characters, LabelKind};
-use rst_text::{Looks, View};
+use rst_text::View;
 use rst_tree::{Level, Node, Tag};
-use std::alloc::{AllocError, Global};
+use std::alloc::Global;
 
 /// Explicit markup, which joins other explicit markup before it.
 #[tactic(auto, using(rst_block_state::proofs::Views::few_lines))]

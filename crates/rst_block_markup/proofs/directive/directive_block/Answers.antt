@@ -1,4 +1,4 @@
-use Rattle.std.proofs.Common.{◌≡◌, ◌-◌, cond, ℕ, List, [], ◌∷◌, drop, arith, rules, sym, ap, ◌∙◌, subst}
+use Rattle.std.proofs.Common.{◌≡◌, ◌-◌, ℕ, List, [], ◌∷◌, drop, arith, rules, sym, ap, ◌∙◌, subst}
 use Rattle.std.specs.Prelude.{◌==◌}
 use Rattle.rst_text.specs.Block.{Block, first_number, first_text}
 use Rattle.rst_text.specs.ViewBlock.{block_of}
@@ -13,16 +13,11 @@ use Rattle.rst_block_state.specs.looks.Ledger.{unread_at}
 use Rattle.rst_block_state.specs.machine.Meanings.{within_at}
 use Rattle.rst_block_state.specs.Numbered.{just}
 use Rattle.rst_block_state.specs.Texts.{excerpt, message_with_lines, span_source}
-use Rattle.rst_markup_directives.specs.declared.found.Place.{Place}
-use Rattle.rst_markup_directives.specs.declared.found.Place.TheVariants.{Top, Body}
+use Rattle.rst_block_markup.specs.MarkupSteps.{place_in}
 use Rattle.rst_block_markup.proofs.DirectivesPaid.{AreFew, directive_few}
 use Rattle.rst_block_markup.proofs.PartLemmas.{part_as, put_reads}
 use Rattle.rst_block_state.proofs.NextConstructs.{span_to}
 use Rattle.rst_block_markup.proofs.directive.directive_block.Goals as goal
-
--- the place of a directive in a block this deep
-abbrev place_at : ℕ → Place
-place_at depth = cond (depth == 0) Top Body
 
 pub returns-in_ok-error-in-Wrong : goal.returns-in_ok-error-in-Wrong
 returns-in_ok-error-in-Wrong c =
@@ -30,8 +25,7 @@ returns-in_ok-error-in-Wrong c =
     let l = c.args.level.now in
     let call = c.args.invocation.now in
     let fault = c.in_ok-fault.ensures in
-    let place : c.if-titles.place ≡ place_at l.depth = search rules in
-    let known : directive_outcome c.in_ok-fault.field-0 ≡ called (unread_at l.depth) B l.at call (place_at l.depth) = fault.outcome ∙ ap (called (unread_at l.depth) B l.at call) place in
+    let known : directive_outcome c.in_ok-fault.field-0 ≡ called (unread_at l.depth) B l.at call (place_in (l.depth == 0)) = fault.outcome ∙ ap (called (unread_at l.depth) B l.at call) (c.place_in.ensures ∙ ap place_in c.titles.ensures) in
     let same = ap directive_outcome (sym c.in-Wrong.is) ∙ known in
     let name : List ℕ = excerpt (first_text (drop l.at B)) call.name in
     let error : c.in_ok-error-in-Wrong.error ≡ message_with_lines Error (first_number (drop l.at B)) (fault_text (fault_in c.in-Wrong.fault) name) (span_source B (span_to l.at call.block.to)) = search rules in
@@ -45,10 +39,9 @@ returns-in-Found c =
     let l = c.args.level.now in
     let call = c.args.invocation.now in
     let fault = c.in_ok-fault.ensures in
-    let place : c.if-titles.place ≡ place_at l.depth = search rules in
-    let known : directive_outcome c.in_ok-fault.field-0 ≡ called (unread_at l.depth) B l.at call (place_at l.depth) = fault.outcome ∙ ap (called (unread_at l.depth) B l.at call) place in
+    let known : directive_outcome c.in_ok-fault.field-0 ≡ called (unread_at l.depth) B l.at call (place_in (l.depth == 0)) = fault.outcome ∙ ap (called (unread_at l.depth) B l.at call) (c.place_in.ensures ∙ ap place_in c.titles.ensures) in
     let same = ap directive_outcome (sym c.in-Found.is) ∙ known in
     let name : List ℕ = excerpt (first_text (drop l.at B)) call.name in
-    let few = subst (AreFew (call.block.to - call.block.from)) c.in-Found.is (directive_few (unread_at l.depth) B l.at call (place_at l.depth) c.in_ok-fault.field-0 known) in
+    let few = subst (AreFew (call.block.to - call.block.from)) c.in-Found.is (directive_few (unread_at l.depth) B l.at call (place_in (l.depth == 0)) c.in_ok-fault.field-0 known) in
     part_as c.directive_nodes.ensures (ap (λ (o : Outcome). directive_by o (within_at l.depth) B (span_to l.at call.block.to) name) same) (ap (λ (o : Outcome). directive_blocks o B) same) c.directive_at.ensures.numbers
     (omega (arith, fault.looked.0)) (omega (arith, fault.looked.1, few.0, few.1, c.requires.begins, c.requires.later))
