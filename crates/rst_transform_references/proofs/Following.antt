@@ -3,7 +3,7 @@ use Rattle.std.proofs.Common.{cond, ◌≡◌, ℕ, zero, suc, ◌+◌, ◌-◌,
 use Rattle.std.specs.Prelude.{count_by, is_some, slice_set, if◌then◌else◌, Option, Some, None}
 use Rattle.std.specs.List.{range_with_len}
 use Rattle.std.proofs.lemmas.Bool.{cases_eq, cases_lt}
-use Rattle.std.proofs.lemmas.List.{get_or_past, get_or-set_other, get_or-set_same, length-replicate, length-set}
+use Rattle.std.proofs.lemmas.List.{get_or_past, get_or-set_other, get_or-set_same, length-replicate, length-set, places}
 use Rattle.std.proofs.lemmas.List.FromFn.{get_or-map-range_with_len, length-map-range_with_len}
 use Rattle.std.proofs.lemmas.List.Sums.{count_by-le-length, sum_by-set}
 use Rattle.rst_transform_references.specs.declared.chains.Answer.{Answer}
@@ -138,11 +138,6 @@ module _ (steps : List (Option Step)) where
         ]);
       }
 
-  none : (n p s : ℕ) → get_or (replicate n None) p None ≡ Some s → ⊥
-  none zero p s is = cc
-  none (suc n) zero s is = cc
-  none (suc n) (suc p) s is = none n p s is
-
   pub Walk-init : (starts : List (Option ℕ)) → starts ≡ replicate (length steps) None → Walk 0 starts 0
   Walk-init starts is = record {
     before = number starts;
@@ -150,5 +145,5 @@ module _ (steps : List (Option Step)) where
     all = ap length is ∙ length-replicate (length steps) None;
     passed = omega arith;
     far = λ n. ap (λ k. within k 0) (omega arith);
-    each = λ p s at. absurd (none (length steps) p s (ap (λ l. get_or l p None) (sym is) ∙ at));
+    each = λ p s at. absurd (let e : get_or starts p None ≡ None = rw is (grind (arith, places)) in cc);
   }

@@ -1,7 +1,7 @@
 -- There is a free number for each footnote that is to be numbered.
 use Rattle.std.proofs.Common.{get_or, ◌≡◌, ℕ, suc, ◌+◌, ◌≤◌, List, [], ◌∷◌, length, refl, sym, ◌∙◌, ap, arith, Bool, true, false, not, codes, nat_eq}
 use Rattle.std.specs.Prelude.{if◌then◌else◌, Option, Some, None}
-use Rattle.std.specs.List.{cons_option, filter, filter_map, list_any, range_with_len, starts_with, IsDistinct}
+use Rattle.std.specs.List.{cons_option, filter, filter_map, list_any, range_with_len, starts_with}
 use Rattle.std.proofs.lemmas.Bool.{and_parts, eqb-true, ne_eqb}
 use Rattle.std.proofs.lemmas.Cmp.{nat_eq_equiv}
 use Rattle.std.proofs.lemmas.List.Filters.{length-filter_both}
@@ -18,23 +18,17 @@ use Rattle.rst_transform_references.specs.FootnoteLabels.{free_numbers, is_to_nu
 
 -- ---- no more numbers are written than elements have
 
-distinct : (p : ℕ → Bool) (n a : ℕ) → IsDistinct nat_eq (filter p (range_with_len a n))
-distinct p n a =
-    IsDistinct-from_apart nat_eq (filter p (range_with_len a n)) (AllPairs-filter (λ x y. nat_eq x y ≡ false) p (range_with_len a n) (λ i j d low past.
-    ne_eqb (get_or (range_with_len a n) i d) (get_or (range_with_len a n) j d) (λ same. absurd (omega (arith, low, past, length-range_with_len a n, same, get_or-range_with_len a n i d (omega (arith, low, past, length-range_with_len a n)), get_or-range_with_len a n j d (omega (arith, past, length-range_with_len a n)))))))
-
--- what is among those that pass a test passes it
-passing : (p : ℕ → Bool) (xs : List ℕ) (q : ℕ) → list_any (nat_eq q) (filter p xs) ≡ true → p q ≡ true
-passing p xs q h =
-    (and_parts (p q) (list_any (nat_eq q) xs) (sym (any-filter_same (nat_eq q) p (p q) (λ k is. ap p (sym (eqb-true q k is))) xs) ∙ h)).0
-
 abbrev numbers_in : List Node → List ℕ
 numbers_in = filter_map (λ node. number_in (written_label node))
 
 written_within : (linked : List Node) → length (filter (λ number. is_written number linked) (range_with_len 1 (length linked))) ≤ length (numbers_in linked)
 written_within linked =
-    length-le_from_is_member nat_eq_equiv (filter (λ number. is_written number linked) (range_with_len 1 (length linked))) (numbers_in linked)
-    (distinct (λ number. is_written number linked) (length linked) 1) (passing (λ number. is_written number linked) (range_with_len 1 (length linked)))
+    let tried : List ℕ = range_with_len 1 (length linked) in
+    let found : List ℕ = filter (λ number. is_written number linked) tried in
+    length-le_from_is_member nat_eq_equiv found (numbers_in linked)
+    (IsDistinct-from_apart nat_eq found (AllPairs-filter (λ x y. nat_eq x y ≡ false) (λ number. is_written number linked) tried (λ i j d low past.
+    ne_eqb (get_or tried i d) (get_or tried j d) (λ same. absurd (omega (arith, low, past, length-range_with_len 1 (length linked), same, get_or-range_with_len 1 (length linked) i d (omega (arith, low, past, length-range_with_len 1 (length linked))), get_or-range_with_len 1 (length linked) j d (omega (arith, past, length-range_with_len 1 (length linked)))))))))
+    (λ q h. (and_parts (is_written q linked) (list_any (nat_eq q) tried) (sym (any-filter_same (nat_eq q) (λ number. is_written number linked) (is_written q linked) (λ k is. ap (λ number. is_written number linked) (sym (eqb-true q k is))) tried) ∙ h)).0)
 
 -- ---- what is to be numbered was written with no number
 

@@ -1,29 +1,19 @@
 -- The references to each target, one reference after another.
-use Rattle.std.proofs.Common.{◌≡◌, ◌∙◌, ℕ, ◌+◌, ◌<◌, List, [], ◌∷◌, ◌++◌, length, map, get_or, replicate, refl, sym, ap, arith, inl, inr, append-nil}
+use Rattle.std.proofs.Common.{◌≡◌, ◌∙◌, ℕ, ◌+◌, ◌<◌, List, [], ◌∷◌, ◌++◌, length, map, get_or, refl, sym, ap, ap₂, arith, inl, inr, append-nil}
 use Rattle.std.specs.Prelude.{filter, slice_set, if◌then◌else◌, Option, Some, None}
 use Rattle.std.specs.List.{range_with_len}
 use Rattle.std.specs.declared.vec.Vec.{Vec}
 use Rattle.std.proofs.lemmas.Bool.{cases_eq, eq-eqb, ne_eqb}
-use Rattle.std.proofs.lemmas.List.{get_or-map, get_or-replicate, get_or-set_other, get_or-set_same, length-map, length-replicate, length-set, map-set}
+use Rattle.std.proofs.lemmas.List.{get_or-map, get_or-set_other, get_or-set_same, length-map, length-set, map-set}
 use Rattle.std.proofs.lemmas.List.Elements.{filter-append}
 use Rattle.std.proofs.lemmas.List.FromFn.{fill_by_all, get_or-map-range_with_len, length-map-range_with_len}
 use Rattle.rst_transform_work.specs.Lists.{at_place}
-use Rattle.rst_transform_references.specs.Indirect.{is_this_place, lists_now, references_to, with_reference}
+use Rattle.rst_transform_references.specs.Indirect.{is_this_place, lists_now, with_reference}
 use Rattle.rst_transform_references.proofs.Each.{range_more}
 
-abbrev found : List (Option ℕ) → ℕ → ℕ → List ℕ
+-- the references to a target that are before a place
+abbrev pub found : List (Option ℕ) → ℕ → ℕ → List ℕ
 found targets place target = filter (λ p. is_this_place target (at_place targets p)) (range_with_len 0 place)
-
--- the references before a place
-pub record Grouped (targets : List (Option ℕ)) (lists : List (List ℕ)) (place : ℕ) : Type 0 where
-  pub all : length lists ≡ length targets
-  pub each : (target : ℕ) → target < length targets → get_or lists target [] ≡ found targets place target
-
-pub Grouped-init : (targets : List (Option ℕ)) → Grouped targets (replicate (length targets) []) 0
-Grouped-init targets = record {
-  all = length-replicate (length targets) [];
-  each = λ target within. get_or-replicate (length targets) target [] [] within;
-}
 
 found_more : (targets : List (Option ℕ)) (place target : ℕ) → found targets (place + 1) target ≡ found targets place target ++ (if is_this_place target (at_place targets place) then place ∷ [] else [])
 found_more targets place target =
@@ -45,13 +35,13 @@ with_at (Some other) place target lists within =
           rw (ne_eqb other target differs) (get_or-set_other lists other target (get_or lists other [] ++ place ∷ []) [] (λ same. differs (sym same)) ∙ sym (append-nil (get_or lists target [])))
     ]
 
-pub Grouped-more : (targets : List (Option ℕ)) (lists : List (List ℕ)) (place : ℕ) (meant : Option ℕ) → Grouped targets lists place → meant ≡ at_place targets place → Grouped targets (with_reference meant place lists) (place + 1)
-Grouped-more targets lists place meant g is = record {
-  all = with_length meant place lists ∙ g.all;
-  each = λ target within.
-      with_at meant place target lists (omega (arith, within, g.all)) ∙ ap (λ list. list ++ (if is_this_place target meant then place ∷ [] else [])) (g.each target within)
-      ∙ ap (λ m. found targets place target ++ (if is_this_place target m then place ∷ [] else [])) is ∙ sym (found_more targets place target);
-}
+pub found_with : (targets : List (Option ℕ)) (place : ℕ) (meant : Option ℕ) → meant ≡ at_place targets place
+    → with_reference meant place (map (found targets place) (range_with_len 0 (length targets))) ≡ map (found targets (place + 1)) (range_with_len 0 (length targets))
+found_with targets place meant is =
+    let lists : List (List ℕ) = map (found targets place) (range_with_len 0 (length targets)) in
+    let long : length lists ≡ length targets = length-map-range_with_len (found targets place) 0 (length targets) in
+    fill_by_all (found targets (place + 1)) (with_reference meant place lists) (length targets) [] (with_length meant place lists ∙ long) (λ target within.
+    with_at meant place target lists (omega (arith, within, long)) ∙ ap₂ (λ list m. list ++ (if is_this_place target m then place ∷ [] else [])) (get_or-map-range_with_len (found targets place) 0 (length targets) target target [] within (omega arith)) is ∙ sym (found_more targets place target))
 
 -- one more place in a list
 pub one_referred : {A : Type 0} (lists : List (Vec ℕ A)) (target place : ℕ) (list more : Vec ℕ A) → target < length lists → list ≡ get_or lists target list → more.items ≡ list.items ++ place ∷ []
@@ -67,6 +57,3 @@ list_at f n lists place one is within at =
 
 pub lists_length : {A : Type 0} (f : ℕ → List ℕ) (n : ℕ) (lists : List (Vec ℕ A)) → lists_now lists ≡ map f (range_with_len 0 n) → length lists ≡ n
 lists_length f n lists is = sym (length-map lists (λ list. list.items)) ∙ ap length is ∙ length-map-range_with_len f 0 n
-
-pub Grouped-end : (targets : List (Option ℕ)) (lists : List (List ℕ)) (place : ℕ) → Grouped targets lists place → place ≡ length targets → lists ≡ map (references_to targets) (range_with_len 0 (length targets))
-Grouped-end targets lists place g is = fill_by_all (references_to targets) lists (length targets) [] g.all (λ target within. g.each target within ∙ ap (λ n. found targets n target) is)

@@ -7,4 +7,3 @@ pub mod Linked
 pub mod Naming
 pub mod Numbering
 pub mod Numbers
-pub mod Removing

@@ -1,9 +1,10 @@
 -- The numbers that footnotes were written with, found one after the other.
+use mathlib.Core.Bool.{or-false}
 use Rattle.std.proofs.Common.{◌≡◌, ℕ, zero, suc, ◌+◌, ◌-◌, ◌<◌, List, [], ◌∷◌, ◌++◌, length, take, get_or, replicate, refl, sym, ◌∙◌, ap, ap₂, arith, Bool, true, false, not, inl, inr, slice_set}
 use Rattle.std.specs.Prelude.{if◌then◌else◌, nat_eq, ◌||◌, Option, Some, None}
 use Rattle.std.specs.List.{cons_option, filter, list_any, range_with_len, repeat}
 use Rattle.std.proofs.lemmas.Bool.{cases_Bool, eqb-false, eqb-true, or_right}
-use Rattle.std.proofs.lemmas.List.{append-nil, append_assoc, get_or_default, get_or-set_other, get_or-set_same, length-append, length-replicate, length-set}
+use Rattle.std.proofs.lemmas.List.{append-nil, append_assoc, get_or_default, get_or-set_other, get_or-set_same, length-append, length-replicate, length-set, places}
 use Rattle.std.proofs.lemmas.List.Sums.{fold_more}
 use Rattle.std.proofs.lemmas.Option.{unwrap_or-slice_get}
 use Rattle.rst_tree.specs.declared.node.Node.{Node}
@@ -16,10 +17,6 @@ use Rattle.rst_transform_references.specs.Table.{Links}
 
 -- ---- the numbers that footnotes were written with
 
-or_false : (b : Bool) → (b || false) ≡ b
-or_false true = refl
-or_false false = refl
-
 -- the numbers with one more that was written, if there is one
 abbrev pub with_written : Option ℕ → List Bool → List Bool
 with_written None written = written
@@ -30,14 +27,14 @@ all_written = all (λ node. with_written (number_in (written_label node)))
 
 -- a number that an element has is found, or was found
 written_or_found : (found_number : Option ℕ) (rest : List ℕ) (written : List Bool) (number : ℕ) → number < length written
-    → (list_any (nat_eq number) rest || get_or (with_written found_number written) number false) ≡ (list_any (nat_eq number) (cons_option found_number rest) || get_or written number false)
+    → (get_or (with_written found_number written) number false || list_any (nat_eq number) rest) ≡ (get_or written number false || list_any (nat_eq number) (cons_option found_number rest))
 written_or_found None rest written number within = refl
 written_or_found (Some n) rest written number within =
     elim (cases_Bool (nat_eq number n)) [
       | inl is ↦
           let same : number ≡ n = eqb-true number n is in
           let set : get_or (with_written (Some n) written) number false ≡ true = ap (λ i. get_or (with_written (Some n) written) i false) same ∙ get_or-set_same written n true false (omega (arith, within, same)) in
-          rw (set, is, or_right (list_any (nat_eq number) rest) true refl) refl
+          rw (set, is, or_right (get_or written number false) true refl) refl
       | inr other ↦ rw (get_or-set_other written n number true false (eqb-false number n other), other) refl
     ]
 
@@ -50,17 +47,11 @@ written_all [] written = refl
 written_all (node ∷ more) written = written_all more (with_written (number_in (written_label node)) written) ∙ written_length written (number_in (written_label node))
 
 -- all that were written are found
-found : (linked : List Node) (written : List Bool) (number : ℕ) → number < length written → get_or (all_written linked written) number false ≡ (is_written number linked || get_or written number false)
-found [] written number within = refl
+found : (linked : List Node) (written : List Bool) (number : ℕ) → number < length written → get_or (all_written linked written) number false ≡ (get_or written number false || is_written number linked)
+found [] written number within = sym (or-false (get_or written number false))
 found (node ∷ more) written number within =
     let own = number_in (written_label node) in
     found more (with_written own written) number (omega (arith, within, written_length written own)) ∙ written_or_found own _ written number within
-
-none_found : (n number : ℕ) → get_or (replicate n false ++ false ∷ []) number false ≡ false
-none_found zero zero = refl
-none_found zero (suc number) = refl
-none_found (suc n) zero = refl
-none_found (suc n) (suc number) = none_found n number
 
 same_filter : (p q : ℕ → Bool) (n a : ℕ) → ((x : ℕ) → x < a + n → p x ≡ q x) → filter p (range_with_len a n) ≡ filter q (range_with_len a n)
 same_filter p q zero a same = refl
@@ -79,7 +70,8 @@ free_are linked written is =
     let every : length written ≡ length linked + 1 = ap length is ∙ written_all linked start ∙ long in
     let count : length written - 1 ≡ length linked = omega (arith, every) in
     rw count (same_filter (λ number. not (get_or written number true)) (λ number. not (is_written number linked)) (length linked) 1 (λ number low.
-    ap not (get_or_default written number true false (omega (arith, low, every)) ∙ ap (λ l. get_or l number false) is ∙ found linked start number (omega (arith, low, long)) ∙ ap (λ b. is_written number linked || b) (none_found (length linked) number) ∙ or_false (is_written number linked))))
+    let none : get_or (replicate (length linked) false ++ false ∷ []) number false ≡ false = grind (arith, places) in
+    ap not (get_or_default written number true false (omega (arith, low, every)) ∙ ap (λ l. get_or l number false) is ∙ found linked start number (omega (arith, low, long)) ∙ ap (λ b. b || is_written number linked) none)))
 
 -- a text once more, before or after
 pub repeat_more : {A : Type 0} (n : ℕ) (xs : List A) → repeat n xs ++ xs ≡ xs ++ repeat n xs

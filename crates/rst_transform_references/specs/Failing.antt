@@ -1,5 +1,6 @@
 -- Elements that fail become problematics of messages (Document Tree, 'problematic').
-use Rattle.std.specs.Prelude.{ℕ, zero, suc, ◌+◌, true, List, [], length, slice_set}
+use Rattle.std.specs.Prelude.{ℕ, ◌+◌, true, List, [], length, slice_set}
+use Rattle.std.specs.List.{range_with_len}
 use Rattle.rst_tree.specs.declared.attrs.Attr.{Attr}
 use Rattle.rst_tree.specs.declared.node.Node.{Node}
 use Rattle.rst_tree.specs.declared.node.Node.TheVariants.{Element, Text}
@@ -8,13 +9,12 @@ use Rattle.rst_transform_work.specs.Known.{Known}
 use Rattle.rst_transform_work.specs.Problematics.{problematic}
 use Rattle.rst_transform_work.specs.Reports.{reported}
 use Rattle.rst_transform_references.specs.declared.links.Change.TheVariants.{Failed}
-use Rattle.rst_transform_references.specs.Links.{each, linked_among, node_at}
+use Rattle.rst_transform_references.specs.Links.{all, each, linked_among, node_at}
 use Rattle.rst_transform_references.specs.Table.{Links}
 
 -- the element at a place and a number of those after it are gone
 abbrev pub without : ℕ → ℕ → List Node → List Node
-without place zero linked = slice_set linked place (Text [])
-without place (suc more) linked = without (place + 1) more (slice_set linked place (Text []))
+without place more = all (λ offset linked. slice_set linked (place + offset) (Text [])) (range_with_len 0 (more + 1))
 
 -- an element, which is at a place, becomes a problematic of a message if it is still there; those in it are gone with it
 abbrev pub fails_as : ℕ → ℕ → Node → Links → Known → Links × Known

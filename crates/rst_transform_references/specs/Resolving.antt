@@ -60,11 +60,16 @@ refers_back _ _ links = links
 
 -- a reference to a footnote that gets the footnote's label as its text
 abbrev pub label_for : Node → Option ℕ → Links → Option (List ℕ)
-label_for node note links = if refers_to_note node && is_some (node_value Auto node) then option_and_then (λ place. label_at place links) note else None
+label_for node holder links =
+    if refers_to_note node && is_some (node_value Auto node) then option_and_then (λ place. label_at place links) holder else None
 
 -- the text of the ERROR on a name that means nothing
 abbrev pub unknown : List ℕ → List ℕ
 unknown name = codes "Unknown target name: \"" ++ (name ++ codes "\".")
+
+-- the text of the ERROR on a name that elements with equal names lost
+abbrev pub duplicate : List ℕ → List ℕ
+duplicate name = codes "Duplicate target name, cannot be used as a unique reference: \"" ++ (name ++ codes "\".")
 
 -- the reference at a place fails for an ERROR of its own
 abbrev pub fails_alone : ℕ → List ℕ → Links → Known → Links × Known
@@ -77,13 +82,15 @@ resolves_to places place name None links known = fails_alone place (unknown name
 resolves_to places place name (Some entry) links known =
     let node : Node = node_at place links in
     let holder : Option ℕ = holder_place places entry.holder in
-    if is_nobody entry.holder then fails_alone place (codes "Duplicate target name, cannot be used as a unique reference: \"" ++ (name ++ codes "\".")) links known
+    if is_nobody entry.holder then fails_alone place (duplicate name) links known
     else if refers_to_note node && is_none (note_at holder links) then fails_alone place (unknown name) links known
     else (puts place (Stays (Some (name_lead holder entry links)) (label_for node holder links)) links, known)
 
 -- the name of a reference by name
 abbrev pub name_at : ℕ → Links → Option (List ℕ)
-name_at place links = let node : Node = node_at place links in if is_reference_node node || refers_to_note node then text_of_attribute Refname node else None
+name_at place links =
+    let node : Node = node_at place links in
+    if is_reference_node node || refers_to_note node then text_of_attribute Refname node else None
 
 -- the same of any element: one that is no reference, or has no name, stays as it is
 abbrev pub resolves : List (Option ℕ) → ℕ → Links → Known → Links × Known

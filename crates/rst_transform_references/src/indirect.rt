@@ -182,7 +182,7 @@ fn no_places(alloc: Global, count: usize) -> Result<Vec<Vec<usize>>>
 {
     let mut lists = Vec::with_capacity(alloc, count)?;
     for _ in 0..count {
-        lists.push(Vec::new(alloc))?;
+        lists.push_reserved(Vec::new(alloc));
     }
     Ok(lists)
 }

@@ -2,7 +2,7 @@
 ghost use Rattle.std.specs.Prelude.{IfOk, ◌≡◌, ◌+◌, [], length, slice_get, MatchOption, None, Some};
 ghost use Rattle.rst_tree.specs.declared.node.Node.TheVariants.{Text as Words};
 ghost use Rattle.rst_transform_references.specs.declared.links.Change.TheVariants.{Stays};
-ghost use Rattle.rst_transform_references.specs.Failing.{fails, without};
+ghost use Rattle.rst_transform_references.specs.Failing.{fails};
 ghost use Rattle.rst_transform_references.specs.Footnotes.{new_text};
 ghost use Rattle.rst_transform_references.specs.Links.{change_at, linked_among, links_of, node_at, nodes_now, puts, TakesLinked};
 ghost use Rattle.rst_transform_references.specs.Resolving.{with_backref};
@@ -109,11 +109,13 @@ impl<'a> Links<'a> {
         ensures { IfOk result (λ links. links ≡ links_of document.now) }
     {
         let linked = linked_among(alloc, &document.children)?;
-        let changes = (0..linked.len()).map(|_| Change::Stays {
-            lead: None,
-            text: None,
-        });
-        let changes = changes.collect(alloc)?;
+        let mut changes = Vec::with_capacity(alloc, linked.len())?;
+        for _ in 0..linked.len() {
+            changes.push_reserved(Change::Stays {
+                lead: None,
+                text: None,
+            });
+        }
         Ok(Links {
             nothing,
             linked,
@@ -217,7 +219,9 @@ impl<'a> Links<'a> {
         };
         let attrs = context.next_problematic(message)?;
         let inside = linked_among(context.alloc, children)?.len();
-        remove(&mut self.linked, self.nothing, place, inside);
+        for offset in 0..inside + 1 {
+            put_at(&mut self.linked, place + offset, self.nothing);
+        }
         put_at(&mut self.changes, place, Change::Failed { attrs, inside });
         Ok(())
     }
@@ -235,21 +239,4 @@ fn add_backref(alloc: Global, change: &mut Change, id: Text) -> Result<()>
         backrefs: Texts::lone(alloc, id),
     };
     Ok(())
-}
-
-/// Puts an empty text in the place of an element and of a number of those after it.
-fn remove<'a>(linked: &mut Vec<&'a Node>, nothing: &'a Node, place: usize, inside: usize)
-    requires { nothing.now ≡ Words [] }
-    ensures { nodes_now linked.new.items ≡ without place inside (nodes_now linked.old.items) }
-{
-    let mut at = place;
-    let mut left = inside;
-    while at < linked.len() {
-        linked[at] = nothing;
-        if left == 0 {
-            return;
-        }
-        at += 1;
-        left -= 1;
-    }
 }

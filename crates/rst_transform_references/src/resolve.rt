@@ -152,21 +152,21 @@ fn refer_back(
     Ok(())
 }
 
-/// The text of a reference in place of its content, if it gets the label of the footnote or citation at a place.
+/// The text of a reference in place of its content, if it gets the label of the footnote or citation that holds its name.
 #[inline(always)]
 fn label_for(
     alloc: Global,
     links: &Links<'_>,
     reference: &Node,
-    note: Option<usize>,
+    holder: Option<usize>,
 ) -> Result<Option<Text>>
-    ensures { IfOk result (λ text. text ≡ label_for reference.now note links.now) }
+    ensures { IfOk result (λ text. text ≡ label_for reference.now holder links.now) }
 {
     if !refers_to_note(reference) || !has(reference, Key::Auto) {
         return Ok(None);
     }
-    match note {
-        Some(note) => label_at(alloc, links, note),
+    match holder {
+        Some(place) => label_at(alloc, links, place),
         None => Ok(None),
     }
 }

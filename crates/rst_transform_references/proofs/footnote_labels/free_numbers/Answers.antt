@@ -1,5 +1,4 @@
-use Rattle.std.proofs.Common.{◌≡◌, ◌∙◌, ℕ, ◌-◌, Ok, arith, filter, get_or, length, not, rules, take, tests, true}
-use Rattle.std.specs.List.{range_with_len}
+use Rattle.std.proofs.Common.{◌≡◌, ◌∙◌, ℕ, ◌-◌, Ok, arith, get_or, length, not, rules, take, tests, true}
 use Rattle.std.proofs.lemmas.Iterator.{YieldsList-from_range, items_from_collect}
 use Rattle.std.proofs.lemmas.Iterator.Consumers.{YieldsList-from_filter}
 use Rattle.std.proofs.lemmas.List.{take_all}
@@ -22,9 +21,9 @@ pub returns : goal.returns
 returns c =
     let linked = c.args.links.now.linked in
     let every : take c.loop-place.place linked ≡ linked = take_all c.loop-place.place linked (search rules) in
-    let made : c.in_ok-collect.field-0.items ≡ filter (λ number. not (get_or c.loop-place.written.items number true)) (range_with_len 1 (length c.loop-place.written.items - 1)) =
+    let is : c.in_ok-collect.field-0.items ≡ free_numbers linked =
     items_from_collect {E = ℕ} (Ok c.in_ok-collect.field-0) c.in_ok-collect.ensures.ran
     (YieldsList-from_filter _ (λ number. not (get_or c.loop-place.written.items number true)) (YieldsList-from_range 1 c.len-2.result (length c.loop-place.written.items - 1) c.filter-free.ensures.source (omega (arith, c.len-2.ensures))) c.filter-free.ensures.closure
-    (λ x b q k. search (rules, tests))) in
-    let is : c.in_ok-collect.field-0.items ≡ free_numbers linked = made ∙ free_are linked c.loop-place.written.items (rw every at c.loop-place.invariant) in
+    (λ x b q k. search (rules, tests)))
+    ∙ free_are linked c.loop-place.written.items (rw every at c.loop-place.invariant) in
     record { enough = rw is (enough linked); free = is }

@@ -1,19 +1,16 @@
-use Rattle.std.proofs.Common.{◌≡◌, false, length, refl, rules, take, tests, true, arith}
-use Rattle.std.specs.List.{list_any}
+use Rattle.std.proofs.Common.{◌≡◌, length, refl, rules, take, tests, arith, sym, ◌∙◌}
 use Rattle.std.proofs.lemmas.Iterator.{YieldsList-from_range}
 use Rattle.std.proofs.lemmas.Iterator.Search.{any_from_yields_List}
 use Rattle.std.proofs.lemmas.List.{take_all}
 use Rattle.rst_transform_references.specs.Footnotes.{footnotes, is_of_footnotes, labelled}
-use Rattle.rst_transform_references.specs.Links.{node_at, places_of}
+use Rattle.rst_transform_references.specs.Links.{node_at}
 use Rattle.rst_transform_references.proofs.Each.{each_more}
 use Rattle.rst_transform_references.proofs.footnotes.resolve_footnotes.Goals as goal
 
 pub returns-then-not-any : goal.returns-then-not-any
 unfolding footnotes
 returns-then-not-any c known h =
-    let any : c.any.result ≡ list_any (λ place. is_of_footnotes (node_at place c.args.links.now)) (places_of c.args.links.now) =
-    any_from_yields_List (λ place. is_of_footnotes (node_at place c.args.links.now)) c.any.new.self _ c.any.result c.any.ensures.ran (YieldsList-from_range 0 c.len.result (length c.args.links.now.linked) refl (omega (arith, c.len.ensures))) (λ x b q k. search (rules, tests)) in
-    let none : list_any (λ place. is_of_footnotes (node_at place c.args.links.now)) (places_of c.args.links.now) ≡ false = search rules in rw none (refl, h)
+    rw (sym (any_from_yields_List (λ place. is_of_footnotes (node_at place c.args.links.now)) c.any.new.self _ c.any.result c.any.ensures.ran (YieldsList-from_range 0 c.len.result (length c.args.links.now.linked) refl (omega (arith, c.len.ensures))) (λ x b q k. search (rules, tests))) ∙ c.if-not-any.true) (refl, h)
 
 pub loop-label-preserved : goal.loop-label-preserved
 loop-label-preserved c =
@@ -23,10 +20,7 @@ loop-label-preserved c =
 pub returns : goal.returns
 unfolding footnotes
 returns c known h =
-    let any : c.any.result ≡ list_any (λ place. is_of_footnotes (node_at place c.args.links.now)) (places_of c.args.links.now) =
-    any_from_yields_List (λ place. is_of_footnotes (node_at place c.args.links.now)) c.any.new.self _ c.any.result c.any.ensures.ran (YieldsList-from_range 0 c.len.result (length c.args.links.now.linked) refl (omega (arith, c.len.ensures))) (λ x b q k. search (rules, tests)) in
-    let some : list_any (λ place. is_of_footnotes (node_at place c.args.links.now)) (places_of c.args.links.now) ≡ true = search rules in
     let every : take c.loop-label.label-index c.in_ok-labels.labels.items ≡ c.in_ok-labels.labels.items = take_all c.loop-label.label-index c.in_ok-labels.labels.items (search rules) in
     let shown = rw (c.deref-label-items.ensures.value, every) at c.loop-label.invariant known h in
     let numbers = c.in_ok-refer_by.ensures _ shown.1 in
-    rw (some, ← c.in_ok-labels.ensures, ← shown.0, ← numbers.0) (c.in_ok-refer_by-2.ensures _ numbers.1)
+    rw (sym (any_from_yields_List (λ place. is_of_footnotes (node_at place c.args.links.now)) c.any.new.self _ c.any.result c.any.ensures.ran (YieldsList-from_range 0 c.len.result (length c.args.links.now.linked) refl (omega (arith, c.len.ensures))) (λ x b q k. search (rules, tests))) ∙ c.if-not-any.false, ← c.in_ok-labels.ensures, ← shown.0, ← numbers.0) (c.in_ok-refer_by-2.ensures _ numbers.1)

@@ -1,14 +1,13 @@
-use Rattle.std.proofs.Common.{◌≡◌, ◌∙◌, ℕ, length, ap, false, refl, true, rules, tests, arith}
+use Rattle.std.proofs.Common.{◌≡◌, ◌∙◌, ℕ, length, ap, refl, rules, tests, arith, sym}
 use Rattle.std.proofs.lemmas.Iterator.{YieldsList-from_range}
 use Rattle.std.proofs.lemmas.Iterator.Search.{any_from_yields_List}
-use Rattle.std.specs.List.{list_any}
 use Rattle.std.specs.Prelude.{is_some, option_map}
 use Rattle.rst_transform_names.specs.Names.{entry_named}
 use Rattle.rst_transform_work.specs.Lists.{at_place}
 use Rattle.rst_transform_references.specs.Chains.{answers_of, indirect_name, steps_of}
 use Rattle.rst_transform_references.specs.Holders.{places_by_number}
 use Rattle.rst_transform_references.specs.Indirect.{concludes, indirect, references_to, targets_of}
-use Rattle.rst_transform_references.specs.Links.{node_at, places_of}
+use Rattle.rst_transform_references.specs.Links.{node_at}
 use Rattle.rst_transform_references.proofs.Each.{each_next, now_is}
 use Rattle.rst_transform_references.proofs.Grouping.{list_at, lists_length}
 use Rattle.rst_transform_references.proofs.indirect.resolve_indirect.Goals as goal
@@ -16,9 +15,7 @@ use Rattle.rst_transform_references.proofs.indirect.resolve_indirect.Goals as go
 pub returns-then-not-any : goal.returns-then-not-any
 unfolding indirect
 returns-then-not-any c known h =
-    let any : c.any.result ≡ list_any (λ place. is_some (indirect_name (node_at place c.args.links.now))) (places_of c.args.links.now) =
-    any_from_yields_List (λ place. is_some (indirect_name (node_at place c.args.links.now))) c.any.new.self _ c.any.result c.any.ensures.ran (YieldsList-from_range 0 c.len.result (length c.args.links.now.linked) refl (omega (arith, c.len.ensures))) (λ x b q k. search (rules, tests)) in
-    let none : list_any (λ place. is_some (indirect_name (node_at place c.args.links.now))) (places_of c.args.links.now) ≡ false = search rules in rw none (refl, h)
+    rw (sym (any_from_yields_List (λ place. is_some (indirect_name (node_at place c.args.links.now))) c.any.new.self _ c.any.result c.any.ensures.ran (YieldsList-from_range 0 c.len.result (length c.args.links.now.linked) refl (omega (arith, c.len.ensures))) (λ x b q k. search (rules, tests))) ∙ c.if-not-any.true) (refl, h)
 
 pub loop-place-preserved : goal.loop-place-preserved
 loop-place-preserved c =
@@ -31,9 +28,6 @@ loop-place-preserved c =
 pub returns : goal.returns
 unfolding indirect
 returns c known h =
-    let any : c.any.result ≡ list_any (λ place. is_some (indirect_name (node_at place c.args.links.now))) (places_of c.args.links.now) =
-    any_from_yields_List (λ place. is_some (indirect_name (node_at place c.args.links.now))) c.any.new.self _ c.any.result c.any.ensures.ran (YieldsList-from_range 0 c.len.result (length c.args.links.now.linked) refl (omega (arith, c.len.ensures))) (λ x b q k. search (rules, tests)) in
-    let some : list_any (λ place. is_some (indirect_name (node_at place c.args.links.now))) (places_of c.args.links.now) ≡ true = search rules in
     let at : c.in_ok-places.places.items ≡ places_by_number c.args.context.now.serials c.args.links.now = search rules in
     let places : c.in_ok-places.places.items ≡ places_by_number known.serials c.args.links.now = at ∙ ap (λ (n : ℕ). places_by_number n c.args.links.now) h.serials in
     let answered : c.in_ok-answers.answers.items ≡ answers_of (steps_of (entry_named c.args.context.now.names) c.in_ok-places.places.items c.args.links.now) = search rules in
@@ -43,4 +37,4 @@ returns c known h =
     let count : c.loop-place.place ≡ length c.in_ok-references.references.items = search rules in
     let every : c.loop-place.place ≡ length c.in_ok-targets.targets.items =
     count ∙ lists_length (references_to c.in_ok-targets.targets.items) (length c.in_ok-targets.targets.items) c.in_ok-references.references.items (search rules) in
-    rw (some, ← places, ← answers, ← targets) (rw every at c.loop-place.invariant known h)
+    rw (sym (any_from_yields_List (λ place. is_some (indirect_name (node_at place c.args.links.now))) c.any.new.self _ c.any.result c.any.ensures.ran (YieldsList-from_range 0 c.len.result (length c.args.links.now.linked) refl (omega (arith, c.len.ensures))) (λ x b q k. search (rules, tests))) ∙ c.if-not-any.false, ← places, ← answers, ← targets) (rw every at c.loop-place.invariant known h)

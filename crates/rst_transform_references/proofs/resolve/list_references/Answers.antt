@@ -1,12 +1,11 @@
-use Rattle.std.proofs.Common.{◌≡◌, length, false, refl, true, rules, tests, arith}
+use Rattle.std.proofs.Common.{◌≡◌, length, refl, rules, tests, arith, sym, ◌∙◌}
 use Rattle.std.proofs.lemmas.Iterator.{YieldsList-from_range}
 use Rattle.std.proofs.lemmas.Iterator.Search.{any_from_yields_List}
-use Rattle.std.specs.List.{list_any}
 use Rattle.std.specs.Prelude.{option_map, slice_get}
 use Rattle.rst_tree.specs.declared.key.Key.TheVariants.{Ids}
 use Rattle.rst_transform_work.specs.Lists.{at_place}
 use Rattle.rst_transform_work.specs.Reading.{list_of_attribute}
-use Rattle.rst_transform_references.specs.Links.{node_at, places_of}
+use Rattle.rst_transform_references.specs.Links.{node_at}
 use Rattle.rst_transform_references.specs.Resolving.{refers_back, refers_to_note}
 use Rattle.rst_transform_references.proofs.Each.{all_next, now_is}
 use Rattle.rst_transform_references.proofs.resolve.list_references.Goals as goal
@@ -19,14 +18,9 @@ loop-place-preserved c =
 
 pub returns-then-not-any : goal.returns-then-not-any
 returns-then-not-any c =
-    let any : c.any.result ≡ list_any (λ place. refers_to_note (node_at place c.args.links.now)) (places_of c.args.links.now) =
-    any_from_yields_List (λ place. refers_to_note (node_at place c.args.links.now)) c.any.new.self _ c.any.result c.any.ensures.ran (YieldsList-from_range 0 c.len.result (length c.args.links.now.linked) refl (omega (arith, c.len.ensures))) (λ x b q k. search (rules, tests)) in
-    let none : list_any (λ place. refers_to_note (node_at place c.args.links.now)) (places_of c.args.links.now) ≡ false = search rules in rw none refl
+    rw (sym (any_from_yields_List (λ place. refers_to_note (node_at place c.args.links.now)) c.any.new.self _ c.any.result c.any.ensures.ran (YieldsList-from_range 0 c.len.result (length c.args.links.now.linked) refl (omega (arith, c.len.ensures))) (λ x b q k. search (rules, tests))) ∙ c.if-not-any.true) refl
 
 pub returns : goal.returns
 returns c =
-    let any : c.any.result ≡ list_any (λ place. refers_to_note (node_at place c.args.links.now)) (places_of c.args.links.now) =
-    any_from_yields_List (λ place. refers_to_note (node_at place c.args.links.now)) c.any.new.self _ c.any.result c.any.ensures.ran (YieldsList-from_range 0 c.len.result (length c.args.links.now.linked) refl (omega (arith, c.len.ensures))) (λ x b q k. search (rules, tests)) in
-    let some : list_any (λ place. refers_to_note (node_at place c.args.links.now)) (places_of c.args.links.now) ≡ true = search rules in
     let past : c.loop-place.place ≡ length c.args.links.now.linked = search rules in
-    rw (some, ← c.in_ok-notes.ensures) (rw past at c.loop-place.invariant)
+    rw (sym (any_from_yields_List (λ place. refers_to_note (node_at place c.args.links.now)) c.any.new.self _ c.any.result c.any.ensures.ran (YieldsList-from_range 0 c.len.result (length c.args.links.now.linked) refl (omega (arith, c.len.ensures))) (λ x b q k. search (rules, tests))) ∙ c.if-not-any.false, ← c.in_ok-notes.ensures) (rw past at c.loop-place.invariant)
