@@ -1,11 +1,10 @@
 //! Tables (Markup Specification, 'Tables').
-ghost use Rattle.std.specs.Prelude.{◌≡◌, ◌+◌, ◌-◌, ◌<◌, ◌≤◌, ◌==◌, [], ◌∷◌, codes, length, drop, nat_lt, if◌then◌else◌, IfOk, ℕ, ◌*◌};
+ghost use Rattle.std.specs.Prelude.{◌≡◌, ◌+◌, ◌-◌, ◌<◌, ◌≤◌, ◌==◌, codes, length, drop, IfOk, ℕ, ◌*◌};
 ghost use Rattle.rst_text.specs.Looked.{Looked, capped};
 ghost use Rattle.rst_text.specs.ViewBlock.{block_of};
 ghost use Rattle.rst_tree.specs.declared.note.Level.TheVariants.{Error};
-ghost use Rattle.rst_tree.specs.declared.tag.Tag.TheVariants.{Thead};
 ghost use Rattle.rst_markup_tables.specs.Messages.{malformed_text};
-ghost use Rattle.rst_block_nodes.specs.Elements.{element_of, entry_node};
+ghost use Rattle.rst_block_nodes.specs.Elements.{entry_node};
 ghost use Rattle.rst_block_nodes.specs.Sections.{filled};
 ghost use Rattle.rst_block_state.specs.machine.Steps as spec;
 ghost use Rattle.rst_block_state.specs.Tables.{table_node};
@@ -85,21 +84,13 @@ pub fn table_of(
     ensures { IfOk result (λ node. node ≡ table_node widths.now head rows line) }
 {
     let (heads, bodies) = split_nodes(alloc, rows.into_marked(), head as u64)?;
-    let mut parts = head_nodes(alloc, head, heads)?;
+    let mut parts = MarkedNodes::none(alloc);
+    if 0 < head {
+        parts.push(heads.into_element(Tag::Thead, Attrs::new(alloc), 0)?)?;
+    }
     parts.push(bodies.into_element(Tag::Tbody, Attrs::new(alloc), 0)?)?;
     let group = completed(alloc, tgroup(alloc, widths, line)?, parts)?;
     MarkedNodes::alone(alloc, group)?.into_element(Tag::Table, Attrs::new(alloc), line)
-}
-
-/// The head of a table with these rows, where their number isn't 0.
-fn head_nodes(alloc: Global, head: usize, rows: MarkedNodes) -> Result<MarkedNodes, AllocError>
-    ensures { IfOk result (λ nodes. nodes ≡ (if nat_lt 0 head then element_of Thead [] rows 0 ∷ [] else [])) }
-{
-    if 0 < head {
-        let head = rows.into_element(Tag::Thead, Attrs::new(alloc), 0)?;
-        return MarkedNodes::alone(alloc, head);
-    }
-    Ok(MarkedNodes::none(alloc))
 }
 
 /// The entry of a cell with its nodes, which takes this many rows and columns beside its first.

@@ -1,8 +1,7 @@
 //! Substitution references give way to the contents of their definitions.
 ghost use Rattle.std.specs.Prelude.{◌≡◌, IfOk};
-ghost use Rattle.std.specs.List.{flat_map, list_any};
+ghost use Rattle.std.specs.List.{flat_map};
 ghost use Rattle.rst_tree.specs.Nodes.{nodes_of};
-ghost use Rattle.rst_tree_index.specs.Kinds.{is_substitution_reference_node};
 ghost use Rattle.rst_transform_work.specs.Known.{Makes};
 ghost use Rattle.rst_transform_substitutions.specs.Definitions.{found_by, known_place};
 ghost use Rattle.rst_transform_substitutions.specs.Expanded.{expanded_in, unwrapped_reference, replaced, with_expansions, within_element};
@@ -80,19 +79,11 @@ fn expand_in(
             }
         }
     }
-    if has_reference(nodes.as_slice()) {
+    let mut all = nodes.as_slice().iter();
+    if all.any(|node| is_substitution_reference_node(node)) {
         open_references(context.alloc, nodes)?;
     }
     Ok(())
-}
-
-/// Whether there is a reference among nodes.
-fn has_reference(nodes: &[Node]) -> bool
-    ensures { result ≡ list_any is_substitution_reference_node nodes.now }
-{
-    nodes
-        .iter()
-        .any(|node| is_substitution_reference_node(node))
 }
 
 /// Puts the nodes in each reference into its place, in a list made anew.

@@ -149,17 +149,8 @@ fn size_of_reference(alloc: Global, definitions: &Definitions, name: &str) -> Re
 pub fn are_above(measured: &[Option<Measured>], nested: usize, places: &[usize]) -> bool
     ensures { result ≡ list_all (is_above measured.now nested) places.now }
 {
-    places
-        .iter()
-        .all(|place| is_above(measured, nested, *place))
-}
-
-/// Whether at least `nested` ones are nested in the definition at a place, if that is known to be replaced.
-fn is_above(measured: &[Option<Measured>], nested: usize, place: usize) -> bool
-    ensures { result ≡ is_above measured.now nested place }
-{
-    match item_at(measured, place) {
+    places.iter().all(|place| match item_at(measured, *place) {
         Some(one) => one.stuck.is_some() || nested <= one.size.nested,
         None => true,
-    }
+    })
 }

@@ -1,5 +1,7 @@
-use Rattle.std.proofs.Common.{◌≡◌, ◌+◌, ◌≤◌, rules, arith, sym, subst, ap, ◌∙◌}
+use Rattle.std.proofs.Common.{◌≡◌, ◌+◌, ◌≤◌, rules, arith, tests, sym, subst, ap, ◌∙◌}
 use Rattle.std.specs.List.{list_any}
+use Rattle.std.proofs.lemmas.Iterator.{YieldsList-from_slice}
+use Rattle.std.proofs.lemmas.Iterator.Search.{any_from_yields_List}
 use Rattle.rst_tree.specs.Forest.{height}
 use Rattle.rst_tree.specs.Nodes.{node_height, nodes_of}
 use Rattle.rst_tree_index.specs.Kinds.{is_substitution_reference_node}
@@ -59,9 +61,10 @@ returns-in_ok-open_references t c =
     (Replacing-all (found_by c.args.definitions.now) (known_place c.args.definitions.now) c.args.within c.args.nodes.now c.args.context.now c.loop-i.context c.loop-i.nodes c.loop-i.i c.loop-i.invariant (omega (arith, c.loop-i.invariant.same.same_len, c.len-i-end.ensures)))
 
 -- or there are none
-pub returns-else-has_reference : goal.returns-else-has_reference
-returns-else-has_reference t c =
+pub returns-else-any : goal.returns-else-any
+returns-else-any t c =
     let are = ap nodes_of c.as_slice.ensures ∙ nodes_of-forest_of c.as_slice.result.now in
-    let none = none_opened (nodes_of c.loop-i.nodes) (ap (list_any is_substitution_reference_node) are ∙ sym c.has_reference.ensures ∙ c.if-has_reference.false) in
+    let any = any_from_yields_List is_substitution_reference_node _ _ c.any.result c.any.ensures.ran (YieldsList-from_slice c.as_slice.result.now cc) (λ x b q k. search (rules, tests)) in
+    let none = none_opened (nodes_of c.loop-i.nodes) (ap (list_any is_substitution_reference_node) are ∙ sym any ∙ c.if-any.false) in
     subst (λ xs. Makes (expanded_in (found_by c.args.definitions.now) (known_place c.args.definitions.now) c.args.within c.args.nodes.now) c.args.context.now c.loop-i.context xs) none
     (Replacing-all (found_by c.args.definitions.now) (known_place c.args.definitions.now) c.args.within c.args.nodes.now c.args.context.now c.loop-i.context c.loop-i.nodes c.loop-i.i c.loop-i.invariant (omega (arith, c.loop-i.invariant.same.same_len, c.len-i-end.ensures)))
