@@ -1,0 +1,116 @@
+//! Laws on levels, each by a function that does nothing and whose contract is the law.
+ghost use Rattle.std.specs.Prelude.{◌≡◌, ℕ, ◌+◌, ◌*◌, ◌≤◌, Bool, List, IfOk, Result, ◌-◌, max};
+ghost use Rattle.rst_tree.specs.Forest.{height};
+ghost use Rattle.rst_tree.specs.Nodes.{node_height};
+ghost use Rattle.rst_tree.specs.declared.node.Node.{Node};
+ghost use Rattle.rst_text.specs.Characters.{Text};
+ghost use Rattle.rst_inline_scan.specs.declared.piece.Piece.{Piece};
+ghost use Rattle.rst_inline.specs.Results.{nodes_from};
+ghost use Rattle.rst_block.specs.Documents.{document};
+ghost use Rattle.rst_block_state.specs.Nodes.{inner_nodes};
+ghost use Rattle.rst_settings.specs.Profile.{Profile, profile_of};
+ghost use Rattle.rst_text.specs.Block.{Block};
+ghost use Rattle.rst_levels.specs.Levels.{Low};
+ghost use Rattle.rst_levels.specs.TransformLevels.{AreFlat, levels_by};
+ghost use Rattle.rst_transform.specs.Finishing.{document_in, leaves, Finishes};
+ghost use Rattle.rst_transform.specs.declared.finishing.Finished.{Finished};
+ghost use Rattle.std.specs.declared.alloc.AllocError.{AllocError};
+ghost use Rattle.rst_settings.specs.declared.Settings.{Settings};
+ghost use Rattle.rst_settings.specs.declared.Threshold.{Threshold};
+ghost use Rattle.rst_tree.specs.Tree.{most_levels};
+ghost use Rattle.rst_transform_names.specs.Registering.{registration};
+ghost use Rattle.rst_transform_work.specs.declared.document.Document.{Document};
+ghost use Rattle.rst_transform_work.specs.Known.{Known};
+ghost use Rattle.rst_transform_docinfo.specs.Docinfo.{with_docinfo};
+ghost use Rattle.rst_transform_references.specs.declared.links.Change.{Change};
+ghost use Rattle.rst_transform_references.specs.Changes.{changed_document};
+ghost use Rattle.rst_transform_substitutions.specs.Expanded.{with_expansions};
+ghost use Rattle.rst_transform_structure.specs.LastSection.{with_last_section};
+ghost use Rattle.rst_transform_structure.specs.Targets.{with_targets};
+ghost use Rattle.rst_transform_structure.specs.Title.{with_title};
+ghost use Rattle.rst_transform_structure.specs.Transitions.{with_transitions};
+ghost use Rattle.rst_transform_messages.specs.Filtered.{with_filtered};
+
+/// The nodes of a text have at most three levels.
+pub fn texts_are_low()
+    ensures { (t : Text) (line number : ℕ) (pieces : List Piece) → Low 3 (nodes_from t line number pieces) }
+{}
+
+/// The nodes of a block have at most five levels for each level of blocks that is left, and one more.
+pub fn blocks_are_low()
+    ensures { (code : Bool) (levels : ℕ) (B : Block) (number : ℕ) → IfOk (inner_nodes code levels B number) (λ read. Low (5 * levels + 1) read.0) }
+{}
+
+/// A document has at most five levels for each level of blocks, and 72 more: 1,322 where blocks nest 250 deep.
+pub fn documents_are_low()
+    ensures { (profile : Profile) (B : Block) (number : ℕ) → IfOk (document profile B number) (λ read. node_height read.0 ≤ 5 * profile.nesting + 72) }
+{}
+
+/// Each replacement text of a parsed document has at most two levels, where each substitution reference in it counts as two.
+pub fn replacements_are_flat()
+    ensures { (profile : Profile) (B : Block) (number : ℕ) → profile.nesting ≤ 250
+        → IfOk (document profile B number) (λ read. AreFlat 2 (document_in read.0).children) }
+{}
+
+/// Registration adds at most the levels of a message on a name, also to replacement texts.
+pub fn names_add_little()
+    ensures levels { (messages : ℕ) (document : Node) → node_height (registration messages document).root ≤ node_height document + 3 }
+    ensures replaced { (h messages : ℕ) (document : Node)
+        → levels_by (h + 3) (document_in (registration messages document).root).children ≤ levels_by h (document_in document).children + 3 }
+    ensures flat { (h messages : ℕ) (document : Node)
+        → AreFlat h (document_in document).children → AreFlat (h + 3) (document_in (registration messages document).root).children }
+{}
+
+/// Targets and titles add no level, transitions at most those of a message, and the last section has four.
+pub fn structure_adds_little()
+    ensures targets { (document : Document) (known : Known) → height ((with_targets document known).0).children ≤ height document.children }
+    ensures title { (document : Document) (known : Known) → height ((with_title document known).0).children ≤ height document.children }
+    ensures transitions { (document : Document) (known : Known) → height ((with_transitions document known).0).children ≤ height document.children + 3 }
+    ensures last_section { (report : Threshold) (document : Document) (known : Known)
+        → height ((with_last_section report document known).0).children ≤ max (height document.children) 4 }
+{}
+
+/// What is printed of a finished document has no more levels than the document.
+pub fn filter_adds_nothing()
+    ensures { (report : Threshold) (reported : ℕ → Bool) (document : Document)
+        → height (with_filtered report reported document).children ≤ height document.children }
+{}
+
+/// The bibliography adds at most the levels of a message in the body of a field.
+pub fn docinfo_adds_little()
+    ensures { (document : Document) (known : Known) → height ((with_docinfo document known).0).children ≤ height document.children + 3 }
+{}
+
+/// However replacement texts lead to one another, where they are flat a document has no more levels than if each reference counts as many as a flat
+/// text may have; so they add one level less than that.
+pub fn substitutions_add_little()
+    ensures replaced { (h : ℕ) (document : Document) (known : Known) → 2 ≤ h → AreFlat h document.children
+        → height ((with_expansions document known).0).children ≤ levels_by h document.children }
+    ensures levels { (h : ℕ) (document : Document) (known : Known) → 2 ≤ h → AreFlat h document.children
+        → height ((with_expansions document known).0).children ≤ height document.children + (h - 1) }
+{}
+
+/// What is written back of links, whatever became of them, adds at most one level.
+pub fn links_add_little()
+    ensures { (changes : List Change) (document : Document) → height (changed_document changes document).children ≤ height document.children + 1 }
+{}
+
+/// A document with flat replacement texts is finished with at most eleven levels more.
+pub fn finishing_adds_little()
+    ensures levels { (messages : ℕ) (profile : Profile) (settings : Settings) (document : Node) → AreFlat 2 (document_in document).children
+        → node_height (leaves messages profile settings document).0 ≤ node_height document + 11 }
+    ensures tree { (messages : ℕ) (profile : Profile) (settings : Settings) (document : Node) → AreFlat 2 (document_in document).children
+        → node_height document ≤ 1339 → node_height (leaves messages profile settings document).0 ≤ most_levels }
+{}
+
+/// Where blocks nest at most 250 deep, what is left of a document after all transforms, whatever the settings, has at most 1,333 levels. So has each tree that
+/// the program prints.
+pub fn finished_documents_are_low()
+    ensures levels { (profile : Profile) (settings : Settings) (B : Block) (number : ℕ) → profile.nesting ≤ 250
+        → IfOk (document profile B number) (λ read. node_height (leaves read.1 profile settings read.0).0 ≤ 5 * profile.nesting + 83) }
+    ensures tree { (profile : Profile) (settings : Settings) (B : Block) (number : ℕ) → profile.nesting ≤ 250
+        → IfOk (document profile B number) (λ read. node_height (leaves read.1 profile settings read.0).0 ≤ most_levels) }
+    ensures printed { (settings : Settings) (B : Block) (number : ℕ) (result : Result Finished AllocError)
+        → IfOk (document (profile_of settings) B number)
+        (λ read. Finishes read.1 (profile_of settings) settings read.0 result → IfOk result (λ done. node_height done.tree ≤ most_levels)) }
+{}

@@ -1,0 +1,5 @@
+//! How many levels trees have.
+#![tactic(auto)]
+
+/// Laws on levels.
+pub mod laws;
