@@ -19,3 +19,4 @@ pub mod TransformDocinfo
 pub mod TransformLinks
 pub mod TransformSubstitutions
 pub mod TransformFinishing
+pub mod FinishedLevels

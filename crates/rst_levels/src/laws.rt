@@ -30,6 +30,7 @@ ghost use Rattle.rst_transform_structure.specs.Targets.{with_targets};
 ghost use Rattle.rst_transform_structure.specs.Title.{with_title};
 ghost use Rattle.rst_transform_structure.specs.Transitions.{with_transitions};
 ghost use Rattle.rst_transform_messages.specs.Filtered.{with_filtered};
+ghost use Rattle.rst2pseudoxml_run.specs.Reading.{read_of};
 
 /// The nodes of a text have at most three levels.
 pub fn texts_are_low()
@@ -103,14 +104,19 @@ pub fn finishing_adds_little()
         → node_height document ≤ 1339 → node_height (leaves messages profile settings document).0 ≤ most_levels }
 {}
 
-/// Where blocks nest at most 250 deep, what is left of a document after all transforms, whatever the settings, has at most 1,333 levels. So has each tree that
-/// the program prints.
+/// Where blocks nest at most 250 deep, what is left of a document after all transforms, whatever the settings, has at most 1,333 levels.
 pub fn finished_documents_are_low()
     ensures levels { (profile : Profile) (settings : Settings) (B : Block) (number : ℕ) → profile.nesting ≤ 250
         → IfOk (document profile B number) (λ read. node_height (leaves read.1 profile settings read.0).0 ≤ 5 * profile.nesting + 83) }
     ensures tree { (profile : Profile) (settings : Settings) (B : Block) (number : ℕ) → profile.nesting ≤ 250
         → IfOk (document profile B number) (λ read. node_height (leaves read.1 profile settings read.0).0 ≤ most_levels) }
-    ensures printed { (settings : Settings) (B : Block) (number : ℕ) (result : Result Finished AllocError)
+    ensures finish { (settings : Settings) (B : Block) (number : ℕ) (result : Result Finished AllocError)
         → IfOk (document (profile_of settings) B number)
         (λ read. Finishes read.1 (profile_of settings) settings read.0 result → IfOk result (λ done. node_height done.tree ≤ most_levels)) }
+{}
+
+/// A document that the program prints has no more levels than a tree may have, also the one that says that a line is too long.
+pub fn printed_documents_are_low()
+    ensures { (settings : Settings) (lines : Block)
+        → IfOk (read_of (profile_of settings) lines) (λ read. node_height (leaves read.1 (profile_of settings) settings read.0).0 ≤ most_levels) }
 {}
