@@ -1,5 +1,5 @@
 -- The element of a directive may hold any nodes.
-use Rattle.std.proofs.Common.{ℕ, Bool, true, false, List, [], ◌∷◌, ◌++◌, Option, None, Some, Result, Ok, Err, option_map, refl}
+use Rattle.std.proofs.Common.{ℕ, Bool, true, false, List, [], ◌∷◌, ◌++◌, Option, None, Some, Result, Ok, Err, option_map, rules}
 use Rattle.std.specs.Prelude.{◌&&◌, not, IfOk, if◌then◌else◌}
 use Rattle.std.specs.List.{AllByRecursion}
 use Rattle.std.specs.Option.{IfSome}
@@ -37,12 +37,9 @@ looked_up passes [] h = tt
 looked_up passes (entry ∷ table) h =
     cond_both (passes entry.0) (Some entry) _ (λ o. IfSome (option_map (λ (e : Text × Kind). e.1) o) KindOpen) (λ _. h.0) (λ _. looked_up passes table h.1)
 
-others_open : TableOpen other_directives
-others_open = (λ c. refl, (λ c. refl, (λ c. refl, (λ c. refl, (λ c. refl, (λ c. refl, (λ c. refl, (λ c. refl, (λ c. refl, (λ c. refl, (λ c. refl, (λ c. refl, (λ c. refl, (λ c. refl, tt))))))))))))))
-
 table_open : (code : Bool) → TableOpen ((if code then code_directives else []) ++ other_directives)
-table_open true = (λ c. refl, (λ c. refl, (λ c. refl, others_open)))
-table_open false = others_open
+table_open true = search rules
+table_open false = search rules
 
 named_open : (t : Text) (code : Bool) → IfSome (directive_named t code) KindOpen
 unfolding directive_named
