@@ -152,10 +152,10 @@ class Trial:
         self.wrong = 0
 
     def only(self, group):
-        """What of the crate is checked where these edits are made; nothing for all of it."""
+        """What of the crate is checked where these edits are made; nothing for all of it, where there is neither a function nor an example."""
         paths = [path for edit in group for path in edit.paths]
         alone = self.examples if any(edit.function is None for edit in group) else []
-        return [word for path in paths + alone for word in ("--only", path)] if paths else []
+        return [word for path in paths + alone for word in ("--only", path)]
 
     def check(self, group, only):
         """Makes edits in a copy and checks it: which were made, and the functions that the prover refuses, if the copy compiles."""
