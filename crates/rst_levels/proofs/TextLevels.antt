@@ -34,23 +34,23 @@ module _ (n : ℕ) (t : Text) (p : Piece) (line : ℕ) where
   plain_low [] = tt
   plain_low (c ∷ cs) = (omega arith, tt)
 
-  substituted_low : (suffix : Suffix) (inner outer shown : Text) → node_weight (substituted_node suffix inner outer shown line) ≤ 3
-  substituted_low Bare inner outer shown = (words_low SubstitutionReference shown).0
+  substituted_low : (suffix : Suffix) (inner outer display_text : Text) → node_weight (substituted_node suffix inner outer display_text line) ≤ 3
+  substituted_low Bare inner outer display_text = (words_low SubstitutionReference display_text).0
   substituted_low _ inner outer [] = omega arith
   substituted_low _ inner outer (c ∷ cs) = omega arith
 
-  embedded_low : (suffix : Suffix) (s shown meaning : Text) (alias : Bool) → Light 3 (nodes_by (embedded_reading suffix s shown meaning alias line) n (source t p) line)
-  embedded_low suffix s shown meaning true = words_low IsReference shown
-  embedded_low Named s shown meaning false = ((words_low IsReference shown).0, (omega arith, tt))
-  embedded_low _ s shown meaning false = words_low IsReference shown
+  embedded_low : (suffix : Suffix) (s display_text meaning : Text) (alias : Bool) → Light 3 (nodes_by (embedded_reading suffix s display_text meaning alias line) n (source t p) line)
+  embedded_low suffix s display_text meaning true = words_low IsReference display_text
+  embedded_low Named s display_text meaning false = ((words_low IsReference display_text).0, (omega arith, tt))
+  embedded_low _ s display_text meaning false = words_low IsReference display_text
 
   phrase_low : (suffix : Suffix) (s phrase : Text) (o : Option ℕ) → Light 3 (nodes_by (phrase_reading_at suffix s phrase o line) n (source t p) line)
   phrase_low suffix s phrase (Some k) = embedded_low suffix s (phrase_display_text phrase k) (meant (enclosed phrase k)) (is_alias (enclosed phrase k))
   phrase_low suffix s phrase None = words_low IsReference (unescaped phrase)
 
-  role_low : (o : Option Tag) (name : List ℕ) (shown : Text) → Light 3 (nodes_by (role_reading_by o name shown line) n (source t p) line)
-  role_low (Some tag) name shown = words_low tag shown
-  role_low None name shown = words_low Problematic (source t p)
+  role_low : (o : Option Tag) (name : List ℕ) (display_text : Text) → Light 3 (nodes_by (role_reading_by o name display_text line) n (source t p) line)
+  role_low (Some tag) name display_text = words_low tag display_text
+  role_low None name display_text = words_low Problematic (source t p)
 
   interpreted_low : (front : Bool) (suffix : Suffix) → Light 3 (nodes_by (interpreted_reading front suffix t p line) n (source t p) line)
   interpreted_low true Bare = role_low (role_tag (text_bytes (prefix_role t p))) _ (unescaped (content t p))
