@@ -152,7 +152,7 @@ class Trial:
         self.wrong = 0
 
     def only(self, group):
-        """What of the crate is checked where these edits are made; nothing for all of it, where there is neither a function nor an example."""
+        """What of the crate is checked where these edits are made; nothing stands for all of it."""
         paths = [path for edit in group for path in edit.paths]
         alone = self.examples if any(edit.function is None for edit in group) else []
         return [word for path in paths + alone for word in ("--only", path)]

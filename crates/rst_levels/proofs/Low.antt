@@ -32,10 +32,6 @@ pub low_height : (m : ℕ) (ns : List Node) → Low m ns → height (forest_of n
 low_height m [] h = omega arith
 low_height m (n ∷ ns) h = let e = height-cons n ns in omega (arith, h.0, low_height m ns h.1)
 
-pub height_low : (m : ℕ) (ns : List Node) → height (forest_of ns) ≤ m → Low m ns
-height_low m [] h = tt
-height_low m (n ∷ ns) h = let e = height-cons n ns in (omega (arith, h), height_low m ns (omega (arith, h)))
-
 pub low_nodes : (m : ℕ) (f : Forest) → height f ≤ m → Low m (nodes_of f)
 low_nodes m bare h = tt
 low_nodes m (element t a c l r) h = (omega (arith, h), low_nodes m r (omega (arith, h)))

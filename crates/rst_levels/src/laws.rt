@@ -77,13 +77,13 @@ pub fn filter_adds_nothing()
         → height (with_filtered report reported document).children ≤ height document.children }
 {}
 
-/// The bibliography adds at most the levels of a message in the body of a field.
+/// Bibliographic fields add at most the levels of a message in the body of a field.
 pub fn docinfo_adds_little()
     ensures { (document : Document) (known : Known) → height ((with_docinfo document known).0).children ≤ height document.children + 3 }
 {}
 
-/// However replacement texts lead to one another, where they are flat a document has no more levels than if each reference counts as many as a flat
-/// text may have; so they add one level less than that.
+/// Where each replacement text has at most `h` levels, with each substitution reference in it counted as `h`, a document whose references are
+/// replaced has no more levels than with each of its references counted as `h`. So it has at most `h - 1` more than before.
 pub fn substitutions_add_little()
     ensures replaced { (h : ℕ) (document : Document) (known : Known) → 2 ≤ h → AreFlat h document.children
         → height ((with_expansions document known).0).children ≤ levels_by h document.children }
@@ -91,12 +91,12 @@ pub fn substitutions_add_little()
         → height ((with_expansions document known).0).children ≤ height document.children + (h - 1) }
 {}
 
-/// What is written back of links, whatever became of them, adds at most one level.
+/// Writing the changes of references and targets into a document adds at most one level, whatever they are.
 pub fn links_add_little()
     ensures { (changes : List Change) (document : Document) → height (changed_document changes document).children ≤ height document.children + 1 }
 {}
 
-/// A document with flat replacement texts is finished with at most eleven levels more.
+/// A finished document has at most eleven levels more than the parsed one, if each replacement text has at most two.
 pub fn finishing_adds_little()
     ensures levels { (messages : ℕ) (profile : Profile) (settings : Settings) (document : Node) → AreFlat 2 (document_in document).children
         → node_height (leaves messages profile settings document).0 ≤ node_height document + 11 }
@@ -104,7 +104,7 @@ pub fn finishing_adds_little()
         → node_height document ≤ 1339 → node_height (leaves messages profile settings document).0 ≤ most_levels }
 {}
 
-/// Where blocks nest at most 250 deep, what is left of a document after all transforms, whatever the settings, has at most 1,333 levels.
+/// Where blocks nest at most 250 deep, a finished document has at most 1,333 levels, for all settings.
 pub fn finished_documents_are_low()
     ensures levels { (profile : Profile) (settings : Settings) (B : Block) (number : ℕ) → profile.nesting ≤ 250
         → IfOk (document profile B number) (λ read. node_height (leaves read.1 profile settings read.0).0 ≤ 5 * profile.nesting + 83) }
@@ -115,7 +115,8 @@ pub fn finished_documents_are_low()
         (λ read. Finishes read.1 (profile_of settings) settings read.0 result → IfOk result (λ done. node_height done.tree ≤ most_levels)) }
 {}
 
-/// A document that the program prints has no more levels than a tree may have, also the one that says that a line is too long.
+/// No document that the program prints has more levels than a tree may have, for all settings. That includes the document that says that a line
+/// is too long.
 pub fn printed_documents_are_low()
     ensures { (settings : Settings) (lines : Block)
         → IfOk (read_of (profile_of settings) lines) (λ read. node_height (leaves read.1 (profile_of settings) settings read.0).0 ≤ most_levels) }
