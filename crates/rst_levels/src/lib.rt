@@ -1,5 +1,0 @@
-//! How many levels trees have.
-#![tactic(auto)]
-
-/// Laws on levels.
-pub mod laws;

@@ -1,0 +1,67 @@
+-- Nodes whose texts have a property.
+use Rattle.std.proofs.Common.{ℕ, Bool, List, [], ◌∷◌, Option, None, Some}
+use Rattle.std.specs.Prelude.{◌==◌, nat_lt}
+use Rattle.std.specs.Option.{IfSome}
+use Rattle.std.proofs.lemmas.Bool.{cond_both}
+use Rattle.rst_tree.specs.declared.attrs.Attr.{Attr}
+use Rattle.rst_tree.specs.declared.attrs.Value.{Value}
+use Rattle.rst_tree.specs.declared.key.Key.{Key}
+use Rattle.rst_tree.specs.declared.node.Node.{Node}
+use Rattle.rst_tree.specs.declared.node.Node.TheVariants.{Element, Text as Words}
+use Rattle.rst_tree.specs.declared.note.Level.{Level}
+use Rattle.rst_tree.specs.Attributes.{with_attr, without_key}
+use Rattle.rst_tree.specs.Forest.{Forest, bare, element, words}
+use Rattle.rst_tree.specs.KeyNames.{is_same, key_code}
+use Rattle.rst_tree.specs.Messages.{note_nodes}
+use Rattle.rst_tree.specs.Nodes.{forest_of, nodes_of}
+use Rattle.rst_tree.specs.Tree.{text_all, text_in}
+use Rattle.rst_block_nodes.specs.Elements.{text_nodes}
+use Rattle.rst_block_nodes.specs.Texts.{counting, message_node}
+use Rattle.rst_tree_laws.proofs.Properties.{Suited}
+use Rattle.rst_tree_laws.specs.Texts.{AttrsHave, NodeHas, NodesHave, TextsHave, ValueHas, becomes_text}
+
+module _ (T : List ℕ → Type 0) where
+  -- ---- attributes
+
+  pub with_attr_has : (k : Key) (v : Value) (attrs : List Attr) → ValueHas T (becomes_text k) v → AttrsHave T attrs → AttrsHave T (with_attr k v attrs)
+  with_attr_has k v [] h g = (h, tt)
+  with_attr_has k v (a ∷ more) h g =
+      cond_both (nat_lt (key_code a.key) (key_code k)) _ _ (AttrsHave T) (λ e. (g.0, with_attr_has k v more h g.1))
+      (λ e. cond_both (is_same a.key k) _ _ (AttrsHave T) (λ i. (h, g.1)) (λ i. (h, g)))
+
+  pub without_key_has : (k : Key) (attrs : List Attr) → AttrsHave T attrs → AttrsHave T (without_key k attrs)
+  without_key_has k [] g = tt
+  without_key_has k (a ∷ more) g = cond_both (is_same a.key k) _ _ (AttrsHave T) (λ e. g.1) (λ e. (g.0, without_key_has k more g.1))
+
+  pub counting_has : (n : ℕ) → AttrsHave T (counting n)
+  counting_has n = cond_both (n == 0) _ _ (AttrsHave T) (λ e. tt) (λ e. (tt, tt))
+
+  -- ---- lists of nodes
+
+  pub nodes_have : (f : Forest) → TextsHave T f → NodesHave T (nodes_of f)
+  nodes_have bare h = tt
+  nodes_have (element t a c l r) h = ((h.0, h.1), nodes_have r h.2)
+  nodes_have (words t r) h = (h.0, nodes_have r h.1)
+
+  -- ---- texts and messages
+
+  pub text_has : (t : List ℕ) → T t → TextsHave T (forest_of (text_nodes t))
+  text_has [] h = tt
+  text_has (b ∷ bs) h = (h, tt)
+
+  pub note_has : (text : List ℕ) (block : Option (List ℕ)) (line : ℕ) → T text → IfSome block T → TextsHave T (forest_of (note_nodes text block line))
+  note_has text None line h k = (tt, (h, tt), tt)
+  note_has text (Some lines) line h k = (tt, (h, tt), ((tt, tt), (k, tt), tt))
+
+  pub message_has : (level : Level) (line : ℕ) (text : List ℕ) (block : Option (List ℕ)) → T text → IfSome block T → NodeHas T (message_node level line text block)
+  message_has level line text block h k = ((tt, tt), note_has text block line h k)
+
+  module _ (P : ℕ → Bool) (s : Suited P T) where
+    pub all_has : (f : Forest) → TextsHave T f → T (text_all f)
+    all_has bare h = s.encoded [] tt
+    all_has (element t a c l r) h = s.append (text_all c) (text_all r) (all_has c h.1) (all_has r h.2)
+    all_has (words t r) h = s.append t (text_all r) h.0 (all_has r h.1)
+
+    pub text_in_has : (n : Node) → NodeHas T n → T (text_in n)
+    text_in_has (Element t a c l) h = all_has c h.1
+    text_in_has (Words t) h = h

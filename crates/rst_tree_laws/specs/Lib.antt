@@ -1,0 +1,4 @@
+pub mod Levels
+pub mod TransformLevels
+pub mod Texts
+pub mod Trees
