@@ -11,7 +11,7 @@ below it and the kit are the same: that is kept below ~/.cache, and with --anew 
 
 A function counts as refused if something of its own isn't proved; that a function it calls isn't proved doesn't count. An edit outside of a
 function, one of several functions, one that can't be made beside the others, and one that isn't refused beside them are tried alone, and if
-the functions and the worked examples are proved then, with the whole crate; the first two count as refused if any function is, or a lemma.
+the functions, the laws and the worked examples are proved then, with the whole crate; the first two count as refused if any function is, or a lemma.
 
 The exit status is 0 if all were refused, 1 if one wasn't or doesn't compile, 2 if the arguments are wrong, 77 if the kit or a library is missing.
 """
@@ -32,7 +32,7 @@ from edits_apply import KINDS, pairs
 TOP = pathlib.Path(__file__).resolve().parent.parent
 KIT = pathlib.Path(shutil.which("rattle") or "/").resolve().parent.parent
 REFUSALS = pathlib.Path(os.environ.get("XDG_CACHE_HOME") or pathlib.Path.home() / ".cache") / "rst2pseudoxml/edits"
-FUNCTION = re.compile(r"\s*(?:pub(?:\(\w+\))? )?(?:const )?(?:unsafe )?fn (\w+)")
+FUNCTION = re.compile(r'\s*(?:pub(?:\(\w+\))? )?(?:const )?(?:unsafe )?(?:extern "C" )?fn (\w+)')
 IMPLEMENTATION = re.compile(r"impl\b(?:<.*?>)? (?:(\w+)(?:<.*>)? for )?(\w+)")
 VERDICT = re.compile(r"^fn \w+::(\S+): (.*)$", re.MULTILINE)
 REFUSED = re.compile(r"^not proved|did not prove|expected answers")
@@ -148,13 +148,13 @@ class Trial:
         self.crate = TOP / "crates" / crate
         self.copy = folder / crate
         self.words = command(crates, crate, folder / "kept")
-        self.examples = ["rows"] if list(self.crate.glob("src/rows*")) else []
+        self.clauses = [name for name in ("laws", "rows") if list(self.crate.glob(f"src/{name}*"))]
         self.wrong = 0
 
     def only(self, group):
         """What of the crate is checked where these edits are made; nothing stands for all of it."""
         paths = [path for edit in group for path in edit.paths]
-        alone = self.examples if any(edit.function is None for edit in group) else []
+        alone = self.clauses if any(edit.function is None for edit in group) else []
         return [word for path in paths + alone for word in ("--only", path)]
 
     def check(self, group, only):
