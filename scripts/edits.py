@@ -11,7 +11,8 @@ below it and the kit are the same: that is kept below ~/.cache, and with --anew 
 
 A function counts as refused if something of its own isn't proved; that a function it calls isn't proved doesn't count. An edit outside of a
 function, one of several functions, one that can't be made beside the others, and one that isn't refused beside them are tried alone, and if
-the functions, the laws and the worked examples are proved then, with the whole crate; the first two count as refused if any function is, or a lemma.
+the functions, the laws and the worked examples are proved then, with the whole crate. The first two count as refused if any function is, or a
+lemma.
 
 The exit status is 0 if all were refused, 1 if one wasn't or doesn't compile, 2 if the arguments are wrong, 77 if the kit or a library is missing.
 """

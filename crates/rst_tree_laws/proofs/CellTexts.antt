@@ -33,7 +33,7 @@ module _ (P : ℕ → Bool) where
 
   -- ---- places
 
-  -- the character that begins at a place passes the test, if there is one: put before places whose characters pass it, it leaves that so
+  -- a place whose character passes the test, if one begins there: before places whose characters pass it, all characters still do
   abbrev Passes : {A : Type 0} → (List A → Text) → A → Type 0
   Passes {A} read p = (ps : List A) → Kept P (read ps) → Kept P (read (p ∷ ps))
 

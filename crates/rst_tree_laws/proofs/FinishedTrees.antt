@@ -22,7 +22,7 @@ use Rattle.rst_block.specs.Documents.{document}
 use Rattle.rst_transform.specs.Finishing.{leaves}
 use Rattle.rst2pseudoxml_run.specs.Reading.{IsLeftOf, long_document, read_by}
 use Rattle.rst_tree_laws.specs.Texts.{AttrsHave, BlockKept, NodeHas, Spells, TextsHave, ValueHas, becomes_text, is_text_character}
-use Rattle.rst_tree_laws.specs.Trees.{HasTree, IsParsed}
+use Rattle.rst_tree_laws.specs.Trees.{IsTree, IsParsed}
 use Rattle.rst_tree.specs.Nodes.{node_height}
 use Rattle.rst_tree_laws.proofs.AnyTexts.{Anything, any, any_suited, block_any}
 use Rattle.rst_tree_laws.proofs.BlockFits.{document_fits}
@@ -66,12 +66,12 @@ document_parsed profile B number few kept =
     (λ read h. record { levels = omega (arith, h.0, node_height_weight read.0); flat = node_flat (5 * profile.nesting + 72) read.0 h.0 (omega arith); texts = h.1 })
     ((document_fits is_text_character (Spells is_text_character) suited profile B kept).at number)
 
-pub finished_tree : (messages : ℕ) (profile : Profile) (settings : Settings) (document : Node) → IsParsed document → HasTree (leaves messages profile settings document).0
+pub finished_tree : (messages : ℕ) (profile : Profile) (settings : Settings) (document : Node) → IsParsed document → IsTree (leaves messages profile settings document).0
 finished_tree messages profile settings document parsed =
     let both = finishing_held is_text_character (Spells is_text_character) suited messages profile settings document parsed.flat parsed.texts in
     record { levels = omega (arith, both.0, parsed.levels); texts = node_weaker (Spells is_text_character) _ spelled_lines (leaves messages profile settings document).0 both.1; lines = node_weaker (Spells is_text_character) _ spelled_pieces (leaves messages profile settings document).0 both.1 }
 
-long_parsed : (line : ℕ) → IsParsed (long_document line)
+pub long_parsed : (line : ℕ) → IsParsed (long_document line)
 long_parsed line = record {
   levels = omega arith;
   flat = ((λ e. omega arith), ((λ e. omega arith), tt, tt), tt);
@@ -86,15 +86,15 @@ marked_scalars : (cs : Text) → all_scalars cs ≡ true → all_scalars (withou
 marked_scalars [] e = refl
 marked_scalars (c ∷ cs) e = cond_both (c == 0xFEFF) cs (c ∷ cs) (λ ds. all_scalars ds ≡ true) (λ _. (and_parts _ _ e).1) (λ _. e)
 
-text_tree : (settings : Settings) (text : Text) (document : Node) (notes : List Note) → all_scalars text ≡ true → IsLeftOf (profile_of settings) settings (Some text) document notes → HasTree document
+text_tree : (settings : Settings) (text : Text) (document : Node) (notes : List Note) → all_scalars text ≡ true → IsLeftOf (profile_of settings) settings (Some text) document notes → IsTree document
 text_tree settings text document notes e (read, is, left) =
     let lines : Block = lines_of settings.tab text in
     let parsed = read_parsed (first_longer (profile_of settings).line_limit lines) settings lines (lines_kept settings.tab text e) in
-    subst HasTree (ap (λ done. done.0) left) (finished_tree read.1 (profile_of settings) settings read.0 (subst (λ r. IfOk r (λ read. IsParsed read.0)) is parsed))
+    subst IsTree (ap (λ done. done.0) left) (finished_tree read.1 (profile_of settings) settings read.0 (subst (λ r. IfOk r (λ read. IsParsed read.0)) is parsed))
 
-pub left_tree : (settings : Settings) (bytes : List ℕ) (document : Node) (notes : List Note) → IsLeftOf (profile_of settings) settings (text_of bytes) document notes → HasTree document
+pub left_tree : (settings : Settings) (bytes : List ℕ) (document : Node) (notes : List Note) → IsLeftOf (profile_of settings) settings (text_of bytes) document notes → IsTree document
 left_tree settings bytes document notes =
-    cond_both (is_utf8 bytes) (Some (without_mark (chars bytes))) None (λ text. IsLeftOf (profile_of settings) settings text document notes → HasTree document)
+    cond_both (is_utf8 bytes) (Some (without_mark (chars bytes))) None (λ text. IsLeftOf (profile_of settings) settings text document notes → IsTree document)
     (λ e. text_tree settings (without_mark (chars bytes)) document notes (marked_scalars (chars bytes) (scalars-chars bytes (IsUtf8-from_is_utf8 bytes e)))) (λ e left. absurd left.1)
 
 -- ---- levels alone, for any lines

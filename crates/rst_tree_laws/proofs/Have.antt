@@ -15,7 +15,6 @@ use Rattle.rst_tree.specs.KeyNames.{is_same, key_code}
 use Rattle.rst_tree.specs.Messages.{note_nodes}
 use Rattle.rst_tree.specs.Nodes.{forest_of, nodes_of}
 use Rattle.rst_tree.specs.Tree.{text_all, text_in}
-use Rattle.rst_block_nodes.specs.Elements.{text_nodes}
 use Rattle.rst_block_nodes.specs.Texts.{counting, message_node}
 use Rattle.rst_tree_laws.proofs.Properties.{Suited}
 use Rattle.rst_tree_laws.specs.Texts.{AttrsHave, NodeHas, NodesHave, TextsHave, ValueHas, becomes_text}
@@ -44,10 +43,6 @@ module _ (T : List ℕ → Type 0) where
   nodes_have (words t r) h = (h.0, nodes_have r h.1)
 
   -- ---- texts and messages
-
-  pub text_has : (t : List ℕ) → T t → TextsHave T (forest_of (text_nodes t))
-  text_has [] h = tt
-  text_has (b ∷ bs) h = (h, tt)
 
   pub note_has : (text : List ℕ) (block : Option (List ℕ)) (line : ℕ) → T text → IfSome block T → TextsHave T (forest_of (note_nodes text block line))
   note_has text None line h k = (tt, (h, tt), tt)

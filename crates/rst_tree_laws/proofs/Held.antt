@@ -28,7 +28,7 @@ module _ (T : List ℕ → Type 0) where
   abbrev pub ForestHeld : ℕ → Forest → Type 0
   ForestHeld m f = (height f ≤ m) × TextsHave T f
 
-  -- so are its own attributes
+  -- a document's nodes have few levels and texts with the property, and its own attributes have it, too
   abbrev pub DocumentHeld : ℕ → Document → Type 0
   DocumentHeld m d = ForestHeld m d.children × AttrsHave T d.attrs
 

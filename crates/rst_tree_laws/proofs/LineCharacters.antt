@@ -17,7 +17,7 @@ use Rattle.rst_tree.specs.Tree.{is_lines}
 use Rattle.rst_tree_laws.specs.Texts.{BlockKept, Kept, Spells, Suits, is_fixed, is_scalar, is_text_character}
 use Rattle.rst_tree_laws.proofs.Cuts.{dropped_kept}
 use Rattle.rst_tree_laws.proofs.Lists.{all_append, all_map}
-use Rattle.rst_tree_laws.proofs.Properties.{onto_kept, split_kept}
+use Rattle.rst_tree_laws.proofs.Properties.{scalars_kept, onto_kept, split_kept}
 
 -- ---- the test
 
@@ -48,16 +48,12 @@ text_suits = record {
 
 -- ---- what has no line end
 
-pub scalars : (cs : Text) → Kept is_text_character cs → all_scalars cs ≡ true
-scalars [] h = refl
-scalars (c ∷ cs) h = and_from _ _ (scalar_is c (and_parts (is_scalar c) _ h.0).0) (scalars cs h.1)
-
 ends_none : (cs : Text) → Kept is_text_character cs → list_all (λ c. (c == 10) || not (is_line_end c)) cs ≡ true
 ends_none [] h = refl
 ends_none (c ∷ cs) h = and_from _ _ (and_parts (is_scalar c) _ h.0).1 (ends_none cs h.1)
 
 pub spelled_lines : (t : List ℕ) → Spells is_text_character t → is_lines t ≡ true
-spelled_lines t (cs, e, h) = rw (e, chars-encodes cs (scalars cs h)) (ends_none cs h)
+spelled_lines t (cs, e, h) = rw (e, chars-encodes cs (scalars_kept is_text_character text_suits cs h)) (ends_none cs h)
 
 -- ---- lines
 

@@ -10,7 +10,8 @@ use Rattle.rst_text.specs.Characters.{Text}
 use Rattle.rst_text.specs.Lines.{is_line_end, pieces}
 use Rattle.rst_tree.specs.Print.{text_lines}
 use Rattle.rst_tree_laws.specs.Texts.{Kept, Spells, is_text_character}
-use Rattle.rst_tree_laws.proofs.LineCharacters.{scalars}
+use Rattle.rst_tree_laws.proofs.LineCharacters.{text_suits}
+use Rattle.rst_tree_laws.proofs.Properties.{scalars_kept}
 
 -- a part before the first of some lines
 abbrev onto_part : List ℕ → List (List ℕ) → List (List ℕ)
@@ -54,4 +55,4 @@ text_pieces (c ∷ cs) h =
     ∙ ap (onto_part (encode_utf8 c)) (text_pieces cs h.1) ∙ encoded_onto c (pieces cs) ∙ rw (none.0, none.1) refl) (cases_Bool (c == 10))
 
 pub spelled_pieces : (t : List ℕ) → Spells is_text_character t → text_lines t ≡ map encode_utf8_all (pieces (chars t))
-spelled_pieces t (cs, e, h) = rw (e, chars-encodes cs (scalars cs h)) (text_pieces cs h)
+spelled_pieces t (cs, e, h) = rw (e, chars-encodes cs (scalars_kept is_text_character text_suits cs h)) (text_pieces cs h)

@@ -55,7 +55,7 @@ module _ (P : ℕ → Bool) where
 
 -- ---- of texts
 
--- A property that texts have whose characters pass a test, and how it is kept. All that is said of the texts of trees is said of such a property.
+-- A property that texts have whose characters pass a test, and how it is kept. What is said of the texts of trees is said of any property of this kind.
 pub record Suited (P : ℕ → Bool) (T : List ℕ → Type 0) : Type 0 where
   pub fixed : (c : ℕ) → is_fixed c ≡ true → P c ≡ true
   pub folds : (c : ℕ) → P c ≡ true → P (simple_fold c) ≡ true
@@ -64,6 +64,10 @@ pub record Suited (P : ℕ → Bool) (T : List ℕ → Type 0) : Type 0 where
   pub decoded : (t : List ℕ) → T t → Kept P (chars t)
   pub append : (t u : List ℕ) → T t → T u → T (t ++ u)
   pub split : (c : ℕ) (t : List ℕ) → c ≤ 127 → T t → AllByRecursion T (slice_split (λ x. x == c) t)
+
+pub scalars_kept : (P : ℕ → Bool) → Suits P → (cs : Text) → Kept P cs → all_scalars cs ≡ true
+scalars_kept P s [] h = refl
+scalars_kept P s (c ∷ cs) h = and_from _ _ (s.scalar c h.0) (scalars_kept P s cs h.1)
 
 -- of texts whose characters pass a test
 pub spelled_suited : (P : ℕ → Bool) → Suits P → Suited P (Spells P)
@@ -77,12 +81,8 @@ spelled_suited P s = record {
   append = λ t u h k. (h.0 ++ k.0, rw (h.1, k.1) (sym (encodes-append h.0 k.0)), all_append _ h.0 k.0 h.2 k.2);
 }
   where
-    scalars_kept : (cs : Text) → Kept P cs → all_scalars cs ≡ true
-    scalars_kept [] h = refl
-    scalars_kept (c ∷ cs) h = and_from _ _ (s.scalar c h.0) (scalars_kept cs h.1)
-
     chars_kept : (t : List ℕ) → Spells P t → Kept P (chars t)
-    chars_kept t (cs, e, h) = rw (e, chars-encodes cs (scalars_kept cs h)) h
+    chars_kept t (cs, e, h) = rw (e, chars-encodes cs (scalars_kept P s cs h)) h
 
 module _ (P : ℕ → Bool) (T : List ℕ → Type 0) (s : Suited P T) where
   pub normalized_kept : (cs : Text) → Kept P cs → Kept P (normalized_white cs)

@@ -47,7 +47,7 @@ module _ (T : List ℕ → Type 0) where
   Small (Replace n) = Held T 2 n
   Small (Keep t a l) = AttrsHave T a
 
-  -- what is made of changes has few levels and such texts, and so have the changes that are left
+  -- what is made of changes has few levels and texts with the property, and the changes that are left have it, too
   abbrev Makes : ℕ → (List Change → Forest × List Change) → Type 0
   Makes m made = (cs : List Change) → ChangesHave cs → ForestHeld T m (made cs).0 × ChangesHave (made cs).1
 

@@ -28,7 +28,7 @@ Kept P cs = AllByRecursion (λ c. P c ≡ true) cs
 abbrev pub Spells : (ℕ → Bool) → List ℕ → Type 0
 Spells P t = (cs : Text) × (t ≡ encode_utf8_all cs) × Kept P cs
 
--- so does each character of each line
+-- each character of each line passes it
 abbrev pub BlockKept : (ℕ → Bool) → Block → Type 0
 BlockKept P B = AllByRecursion (λ (l : Line). Kept P l.text) B
 
@@ -36,7 +36,7 @@ BlockKept P B = AllByRecursion (λ (l : Line). Kept P l.text) B
 abbrev pub is_fixed : ℕ → Bool
 is_fixed c = nat_le c 126 && (nat_le 32 c || c == 10)
 
--- a test of characters that fixed texts and the symbols of footnotes pass, and, with a character, what it folds to
+-- A test that fixed texts and the symbols of footnotes pass, and, with a character, what it folds to. Only scalar values pass it.
 pub record Suits (P : ℕ → Bool) : Type 0 where
   pub fixed : (c : ℕ) → is_fixed c ≡ true → P c ≡ true
   pub folds : (c : ℕ) → P c ≡ true → P (simple_fold c) ≡ true
@@ -52,15 +52,16 @@ becomes_text Rawsource = true
 becomes_text Refname = true
 becomes_text _ = false
 
--- a value of an attribute that becomes a text, or of another
+-- the value of an attribute has the property, if it becomes a text
 abbrev pub ValueHas : (List ℕ → Type 0) → Bool → Value → Type 0
 ValueHas T true (TextValue t) = T t
 ValueHas T _ _ = Unit {0}
 
+-- each value of some attributes that becomes a text has it
 abbrev pub AttrsHave : (List ℕ → Type 0) → List Attr → Type 0
 AttrsHave T attrs = AllByRecursion (λ (a : Attr). ValueHas T (becomes_text a.key) a.value) attrs
 
--- each text has the property, and each value that becomes one
+-- each text of some nodes has it, and each value that becomes a text
 abbrev pub TextsHave : (List ℕ → Type 0) → Forest → Type 0
 TextsHave T bare = Unit {0}
 TextsHave T (element t a c l r) = AttrsHave T a × TextsHave T c × TextsHave T r
@@ -81,6 +82,6 @@ NotesHave T notes = AllByRecursion (λ (n : Note). T n.text × IfSome n.block T)
 abbrev pub is_scalar : ℕ → Bool
 is_scalar c = nat_lt c 0xD800 || (nat_lt 0xDFFF c && nat_lt c 0x110000)
 
--- the characters of texts: scalar values that end no line, and LF
+-- a text character: a scalar value that ends no line, or LF
 abbrev pub is_text_character : ℕ → Bool
 is_text_character c = is_scalar c && (c == 10 || not (is_line_end c))

@@ -10,16 +10,16 @@ use Rattle.rst_transform.specs.Finishing.{document_in}
 use Rattle.rst_tree_laws.specs.Texts.{NodeHas, Spells, is_text_character}
 use Rattle.rst_tree_laws.specs.TransformLevels.{AreFlat}
 
--- A parsed document has eleven levels fewer than a tree may have, its replacement texts have at most two levels, where each substitution reference
--- counts as two, and its texts, and the values that become texts, consist of characters of texts.
+-- A parsed document has at least eleven levels fewer than a tree may have. Its replacement texts have at most two levels, where each substitution
+-- reference counts as two. Its texts, and the values that become texts, consist of text characters.
 pub record IsParsed (document : Node) : Type 0 where
   pub levels : node_height document + 11 ≤ most_levels
   pub flat : AreFlat 2 (document_in document).children
   pub texts : NodeHas (Spells is_text_character) document
 
--- The nodes don't nest too deep, no text has a line end but LF, and so each text is printed with one line for each of its lines. That attributes are in
--- order, each name once, is true of each list of them.
-pub record HasTree (document : Node) : Type 0 where
+-- A tree has no more levels than a tree may have, and no text in it has a line end but LF. So each text is printed with one line for each of its
+-- lines. The order of attributes isn't spoken of here: the type of their lists says it.
+pub record IsTree (document : Node) : Type 0 where
   pub levels : node_height document ≤ most_levels
   pub texts : NodeHas (λ t. is_lines t ≡ true) document
   pub lines : NodeHas (λ t. text_lines t ≡ map encode_utf8_all (pieces (chars t))) document

@@ -31,7 +31,7 @@ ghost use Rattle.rst_transform_structure.specs.Title.{with_title};
 ghost use Rattle.rst_transform_structure.specs.Transitions.{with_transitions};
 ghost use Rattle.rst_transform_messages.specs.Filtered.{with_filtered};
 ghost use Rattle.rst2pseudoxml_run.specs.Reading.{IsLeftOf, read_of};
-ghost use Rattle.rst_tree_laws.specs.Trees.{HasTree, IsParsed};
+ghost use Rattle.rst_tree_laws.specs.Trees.{IsTree, IsParsed};
 ghost use Rattle.rst_text.specs.Lines.{lines_of};
 ghost use Rattle.rst_text.specs.Text.{text_of};
 ghost use Rattle.rst_tree.specs.declared.note.Note.{Note};
@@ -135,7 +135,7 @@ pub fn texts_stay()
     ensures notes { (P : ℕ → Bool) (t : Text) (line : ℕ) (pieces : List Piece) → Suits P → Kept P t → NotesHave (Spells P) (notes_of t line pieces) }
 {}
 
-/// So do those of blocks and of a document consist of the characters of their lines.
+/// The texts of blocks and of a document consist of characters of their lines, of those that these fold to, and of fixed ones.
 pub fn blocks_keep_texts()
     ensures blocks { (P : ℕ → Bool) (code : Bool) (levels : ℕ) (B : Block) (number : ℕ) → Suits P → BlockKept P B
         → IfOk (inner_nodes code levels B number) (λ read. NodesHave (Spells P) read.0) }
@@ -143,13 +143,13 @@ pub fn blocks_keep_texts()
         → IfOk (document profile B number) (λ read. NodeHas (Spells P) read.0) }
 {}
 
-/// Those of a finished document consist of the characters of the parsed one's.
+/// The texts of a finished document consist of characters of the parsed document's texts, of those that these fold to, and of fixed ones.
 pub fn finishing_keeps_texts()
     ensures { (P : ℕ → Bool) (messages : ℕ) (profile : Profile) (settings : Settings) (document : Node) → Suits P → AreFlat 2 (document_in document).children
         → NodeHas (Spells P) document → NodeHas (Spells P) (leaves messages profile settings document).0 }
 {}
 
-/// The lines of a text consist of characters of texts, which fixed texts do, too, and texts of these have no line end but LF.
+/// Fixed texts and the lines of a text consist of text characters, and a text that consists of them has no line end but LF.
 pub fn lines_hold_text_characters()
     ensures suits { Suits is_text_character }
     ensures lines { (tab : ℕ) (text : Text) → all_scalars text ≡ true → BlockKept is_text_character (lines_of tab text) }
@@ -161,12 +161,12 @@ pub fn parsed_documents_finish_as_trees()
     ensures parsed { (profile : Profile) (B : Block) (number : ℕ) → profile.nesting ≤ 250 → BlockKept is_text_character B
         → IfOk (document profile B number) (λ read. IsParsed read.0) }
     ensures finished { (messages : ℕ) (profile : Profile) (settings : Settings) (document : Node) → IsParsed document
-        → HasTree (leaves messages profile settings document).0 }
+        → IsTree (leaves messages profile settings document).0 }
 {}
 
 /// For all inputs and all settings, what is left of the document that is read is a tree: it has no more levels than a tree may have, and no text in
 /// it has a line end but LF. That includes the document that says that a line is too long.
 pub fn printed_documents_are_trees()
     ensures { (settings : Settings) (bytes : List ℕ) (document : Node) (notes : List Note)
-        → IsLeftOf (profile_of settings) settings (text_of bytes) document notes → HasTree document }
+        → IsLeftOf (profile_of settings) settings (text_of bytes) document notes → IsTree document }
 {}

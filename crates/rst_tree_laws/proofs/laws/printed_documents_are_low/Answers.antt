@@ -8,22 +8,17 @@ use Rattle.rst_text.specs.Lines.{first_longer}
 use Rattle.rst_tree.specs.Nodes.{node_height}
 use Rattle.rst_tree.specs.Tree.{most_levels}
 use Rattle.rst_block.specs.Documents.{document}
-use Rattle.rst_transform.specs.Finishing.{document_in, leaves}
+use Rattle.rst_transform.specs.Finishing.{leaves}
 use Rattle.rst2pseudoxml_run.specs.Reading.{long_document, read_by}
-use Rattle.rst_tree_laws.specs.TransformLevels.{AreFlat}
 use Rattle.rst_tree_laws.proofs.TransformFinishing.{finishing_low}
-use Rattle.rst_tree_laws.proofs.FinishedTrees.{left_low}
+use Rattle.rst_tree_laws.proofs.FinishedTrees.{left_low, long_parsed}
 use Rattle.rst_tree_laws.proofs.laws.printed_documents_are_low.Goals as goal
-
--- the message on a line that is too long holds a paragraph
-long_flat : (line : ℕ) → AreFlat 2 (document_in (long_document line)).children
-long_flat line = ((λ e. omega arith), ((λ e. omega arith), tt, tt), tt)
 
 read_low : (settings : Settings) (lines : Block) (long : Option ℕ)
     → IfOk (read_by long (profile_of settings) lines) (λ read. node_height (leaves read.1 (profile_of settings) settings read.0).0 ≤ most_levels)
 read_low settings lines None =
     IfOk-weaker (document (profile_of settings) lines 0) _ _ (λ read h. omega (arith, h)) (left_low (profile_of settings) settings lines 0 (omega arith))
-read_low settings lines (Some line) = omega (arith, finishing_low 0 (profile_of settings) settings (long_document line) (long_flat line))
+read_low settings lines (Some line) = omega (arith, finishing_low 0 (profile_of settings) settings (long_document line) (long_parsed line).flat)
 
 pub returns : goal.returns
 returns c = λ settings lines. read_low settings lines (first_longer (profile_of settings).line_limit lines)
