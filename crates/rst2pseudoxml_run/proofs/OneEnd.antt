@@ -7,7 +7,7 @@ use Rattle.rst_settings.specs.Profile.{Profile}
 use Rattle.rst_settings.specs.declared.Settings.{Settings}
 use Rattle.rst_text.specs.Counted.{Stream, Gains}
 use Rattle.rst2pseudoxml_run.specs.declared.end.End.{End}
-use Rattle.rst2pseudoxml_run.specs.declared.end.End.TheVariants.{Done, Read, TooLong, NotUtf8, TooDeep, NoMemory, WriteErr, WriteOut}
+use Rattle.rst2pseudoxml_run.specs.declared.end.End.TheVariants.{Done, TooLong, NotUtf8, TooDeep}
 use Rattle.rst2pseudoxml_run.specs.OneEnd.{is_own, Comes, EndAlike}
 use Rattle.rst2pseudoxml_run.specs.Headline.{Ends}
 use Rattle.rst2pseudoxml_run.specs.RunResult.{result_of, Parts}

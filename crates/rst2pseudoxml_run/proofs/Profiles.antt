@@ -2,7 +2,7 @@
 use Rattle.std.proofs.Common.{◌≡◌, ◌∙◌, ◌⊎◌, inl, inr, ℕ, false, List, length, refl, sym, ap, arith, ⊎_elim}
 use Rattle.std.proofs.lemmas.Bool.{cases_lt}
 use Rattle.std.specs.Prelude.{Option, Some, None, Result, Ok, Err}
-use Rattle.rst_block.specs.Documents.{document}
+use Rattle.rst_block_state.specs.Documents.{document}
 use Rattle.rst_settings.specs.Profile.{profile_of}
 use Rattle.rst_settings.specs.declared.Settings.{Settings}
 use Rattle.rst_text.specs.Block.{Block}

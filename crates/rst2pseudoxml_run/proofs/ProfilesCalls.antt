@@ -26,7 +26,7 @@ use Rattle.rst_markup_blocks.specs.declared.explicit_markup.ExplicitForm.TheVari
 use Rattle.rst_markup_blocks.specs.declared.forms.CommentCause.{CommentCause}
 use Rattle.rst_markup_blocks.specs.declared.forms.CommentCause.TheVariants.{Plain}
 use Rattle.rst_markup_blocks.specs.declared.forms.Explicit.{Explicit}
-use Rattle.rst_markup_blocks.specs.declared.forms.Explicit.TheVariants.{Footnote, Citation, Target, Anonymous, Substitution, Directive, Comment, EmptyComment}
+use Rattle.rst_markup_blocks.specs.declared.forms.Explicit.TheVariants.{Substitution, Directive, Comment, EmptyComment}
 use Rattle.rst_markup_blocks.specs.declared.part.Part.{Part}
 use Rattle.rst_markup_directives.specs.Characters.{Text}
 use Rattle.rst2pseudoxml_run.specs.CodeCalls.{begins_call, begins_colons, holds_code, IsWithoutCode}

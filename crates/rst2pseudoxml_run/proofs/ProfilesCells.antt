@@ -1,11 +1,10 @@
 -- Where no call of program code is in the lines of a table, none is in its cells: each line of a cell is a part of a line of the table, or of the rule
 -- between head and body.
-use Rattle.std.proofs.Common.{◌≡◌, ℕ, zero, suc, ◌+◌, ◌-◌, ◌⊎◌, inl, inr, Bool, true, false, cond, ◌&&◌, ◌||◌, ◌==◌, List, [], ◌∷◌, length, take, drop, map, get_or, Option, Some, None, is_some, unwrap_or, refl, sym, ap, subst, ◌∙◌, arith, true≢false}
+use Rattle.std.proofs.Common.{◌≡◌, ℕ, zero, suc, ◌+◌, ◌-◌, inl, inr, Bool, true, false, cond, ◌&&◌, ◌||◌, ◌==◌, List, [], ◌∷◌, length, take, drop, map, get_or, Option, Some, None, is_some, unwrap_or, refl, sym, ap, subst, ◌∙◌, true≢false}
 use Rattle.std.specs.Prelude.{flat_map, nat_le}
 use Rattle.std.specs.Char.{is_whitespace}
 use Rattle.std.specs.List.{range_with_len, AllByRecursion}
 use Rattle.std.specs.Str.{drop_trailing_whitespace}
-use Rattle.std.proofs.lemmas.Bool.{eqb-true}
 use Rattle.rst_text.specs.Block.{Line, Block, shorten, first_number}
 use Rattle.rst_text.specs.Extent.{least_indent}
 use Rattle.rst_text.specs.Places.{first_from}
@@ -13,7 +12,7 @@ use Rattle.rst_markup_blocks.specs.TableRows.{grid_bottom, grid_size, head_borde
 use Rattle.rst_markup_tables.specs.Cells.{cell_block, cell_line, characters, cut_places}
 use Rattle.rst_markup_tables.specs.Counts.{below}
 use Rattle.rst_markup_tables.specs.GridTable.{cell_of, dash, dashed, grid_fault, head_of, is_column, is_head_rule, is_row, row_cells, tiled, with_dashes}
-use Rattle.rst_markup_tables.specs.Places.{consists_of, is_double, mark_at, mark_of, no_row, places_of, row_at, row_of_line, rows_of, Grid, Row}
+use Rattle.rst_markup_tables.specs.Places.{consists_of, mark_at, no_row, places_of, row_at, row_of_line, rows_of, Grid, Row}
 use Rattle.rst_markup_tables.specs.Results.{cell_blocks}
 use Rattle.rst_markup_tables.specs.SimpleTable.{entry, lines_of_row, span_right, row_entries, row_spans, simple_by, simple_fault, simple_rows, simple_table, span_of}
 use Rattle.rst_markup_tables.specs.Tiling.{grid_by, grid_table, tiling_of}
@@ -22,7 +21,7 @@ use Rattle.rst_markup_tables.specs.declared.results.TableDetail.{TableDetail}
 use Rattle.rst_markup_tables.proofs.CellLemmas.{characters-places, cut-keeps}
 use Rattle.rst_markup_tables.proofs.Dashes.{IsDash, dashed-characters}
 use Rattle.rst2pseudoxml_run.specs.CodeCalls.{begins_code, holds_code, IsWithoutCode}
-use Rattle.rst2pseudoxml_run.proofs.ProfilesCode.{and_left, and_right, drop_free, part_free}
+use Rattle.rst2pseudoxml_run.proofs.ProfilesCode.{and_right, drop_free, part_free}
 use Rattle.rst2pseudoxml_run.proofs.ProfilesLists.{all_any, all_drop, all_flat, all_map, all_set, all_take}
 
 -- ---- parts of lines

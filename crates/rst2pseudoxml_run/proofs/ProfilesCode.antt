@@ -1,5 +1,5 @@
 -- Where no call of program code is written, a directive is the same whether there is one for program code.
-use Rattle.std.proofs.Common.{◌≡◌, ℕ, zero, suc, Bool, true, false, ◌&&◌, ◌||◌, ◌==◌, eqb, List, [], ◌∷◌, ◌++◌, map, take, drop, codes, refl, sym, ap, ◌∙◌, ◌-◌, ◌≤◌, arith, true≢false, bytes_eq, cond, find, option_map, take-append-drop, Some, if◌then◌else◌}
+use Rattle.std.proofs.Common.{◌≡◌, ℕ, zero, suc, Bool, true, false, ◌&&◌, ◌||◌, ◌==◌, eqb, List, [], ◌∷◌, ◌++◌, map, take, drop, codes, refl, sym, ap, ◌∙◌, ◌-◌, ◌≤◌, arith, true≢false, bytes_eq, take-append-drop}
 use Rattle.std.proofs.lemmas.List.{drop-drop}
 use Rattle.std.specs.Char.{to_ascii_lowercase}
 use Rattle.rst_text.specs.Block.{Block, first_text}

@@ -12,7 +12,8 @@ use Rattle.rst_transform_structure.specs.LastSection.{with_last_section}
 use Rattle.rst_transform_structure.specs.Transitions.{with_transitions}
 use Rattle.rst_transform_work.specs.declared.document.Document.{Document}
 use Rattle.rst_transform_work.specs.Known.{Known}
-use Rattle.rst_transform.specs.Finishing.{all_messages, asked, document_in, known_at_first, leaves, left_of_document, titled_first}
+use Rattle.rst_transform_work.specs.States.{document_in}
+use Rattle.rst_transform.specs.Finishing.{all_messages, asked, known_at_first, leaves, left_of_document, titled_first}
 use Rattle.rst_transform.specs.Linking.{with_links}
 use Rattle.rst2pseudoxml_run.specs.Profiles.{leading_field_list, titled_of}
 

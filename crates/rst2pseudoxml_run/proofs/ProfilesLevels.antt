@@ -8,8 +8,8 @@ use Rattle.rst_tree.specs.declared.node.Node.{Node}
 use Rattle.rst_markup_blocks.specs.Partition.{Span, spans_from, construct_size}
 use Rattle.rst_block_nodes.specs.LineBlocks.{IndentedLine, LinePart, level_line, deeper_lines, least_indent, line_parts, part_node, line_block}
 use Rattle.rst_block_nodes.specs.Sections.{document_of}
-use Rattle.rst_block_state.specs.Constructs.{Construct, nothing, block_quote, item_of_list, doctest_block, bar_line, grid, simple, explicit_markup, transition, overlined_title, misplaced_lines, underlined_title, paragraph, Found, found_at}
-use Rattle.rst_block.specs.Documents.{document}
+use Rattle.rst_block_state.specs.Constructs.{Construct, bar_line, Found, found_at}
+use Rattle.rst_block_state.specs.Documents.{document}
 use Rattle.rst_block_state.specs.Joins.{runs_of, joining_of, joining_after}
 use Rattle.rst_block_state.specs.LineRuns.{indented_lines}
 use Rattle.rst_block_state.specs.Nodes.{nodes_among, piece_of, whole_by, ended, run_items, block_items, below_last_level, inner_nodes}

@@ -1,6 +1,6 @@
 -- What it takes that a document means the same with program code as a directive: that no directive is called that means something else then, in the
 -- document's lines, in the blocks that are opened in it, and in its cells.
-use Rattle.std.specs.Prelude.{◌≡◌, ℕ, Bool, true, false, drop, Some}
+use Rattle.std.specs.Prelude.{ℕ, true, false, drop}
 use Rattle.std.specs.List.{AllByRecursion}
 use Rattle.rst_text.specs.Block.{Block}
 use Rattle.rst_markup_blocks.specs.Explicit.{explicit_of}

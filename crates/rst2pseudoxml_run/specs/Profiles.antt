@@ -10,7 +10,8 @@ use Rattle.rst_tree.specs.declared.node.Node.{Node}
 use Rattle.rst_transform_docinfo.specs.Docinfo.{leading_list}
 use Rattle.rst_transform_names.specs.Registering.{registration}
 use Rattle.rst_transform_work.specs.declared.document.Document.{Document}
-use Rattle.rst_transform.specs.Finishing.{document_in, known_at_first, titled_first}
+use Rattle.rst_transform_work.specs.States.{document_in}
+use Rattle.rst_transform.specs.Finishing.{known_at_first, titled_first}
 use Rattle.rst2pseudoxml_run.specs.CodeCalls.{IsWithoutCode}
 use Rattle.rst2pseudoxml_run.specs.declared.end.End.TheVariants.{TooDeep}
 use Rattle.rst2pseudoxml_run.specs.Reading.{IsReadOf}

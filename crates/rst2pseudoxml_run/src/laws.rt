@@ -1,7 +1,22 @@
 //! Laws on the definitions, each by a function that does nothing and whose contract is the law.
+ghost use Rattle.std.specs.Prelude.{ℕ, ◌+◌, ◌*◌, ◌≤◌, List, IfOk, Result};
+ghost use Rattle.std.specs.declared.alloc.AllocError.{AllocError};
+ghost use Rattle.rst_settings.specs.Profile.{Profile, profile_of};
+ghost use Rattle.rst_settings.specs.declared.Settings.{Settings};
+ghost use Rattle.rst_text.specs.Block.{Block};
+ghost use Rattle.rst_text.specs.Text.{text_of};
+ghost use Rattle.rst_tree.specs.Nodes.{node_height};
+ghost use Rattle.rst_tree.specs.declared.node.Node.{Node};
+ghost use Rattle.rst_tree.specs.Tree.{most_levels};
+ghost use Rattle.rst_tree.specs.declared.note.Note.{Note};
+ghost use Rattle.rst_tree_laws.specs.Trees.{IsTree};
+ghost use Rattle.rst_transform.specs.Finishing.{leaves, Finishes};
+ghost use Rattle.rst_transform.specs.declared.finishing.Finished.{Finished};
+ghost use Rattle.rst_block_state.specs.Documents.{document};
 ghost use Rattle.rst2pseudoxml_run.specs.OneEnd.{HasOneEnd};
 ghost use Rattle.rst2pseudoxml_run.specs.Profiles.{IsFirstProfile, ProfilesAgree};
 ghost use Rattle.rst2pseudoxml_run.specs.RunResult.{IsJudged};
+ghost use Rattle.rst2pseudoxml_run.specs.Reading.{IsLeftOf, read_of};
 
 /// Each input has a result: what is printed for it, or its refusal as too long, no UTF-8 or nested too deeply.
 pub fn judged()
@@ -25,4 +40,29 @@ pub fn first_profile()
 /// the document.
 pub fn profiles_agree()
     ensures { ProfilesAgree }
+{}
+
+/// Where blocks nest at most 250 deep, a finished document has at most 1,333 levels, for all settings.
+pub fn finished_documents_are_low()
+    ensures levels { (profile : Profile) (settings : Settings) (B : Block) (number : ℕ) → profile.nesting ≤ 250
+        → IfOk (document profile B number) (λ read. node_height (leaves read.1 profile settings read.0).0 ≤ 5 * profile.nesting + 83) }
+    ensures tree { (profile : Profile) (settings : Settings) (B : Block) (number : ℕ) → profile.nesting ≤ 250
+        → IfOk (document profile B number) (λ read. node_height (leaves read.1 profile settings read.0).0 ≤ most_levels) }
+    ensures finish { (settings : Settings) (B : Block) (number : ℕ) (result : Result Finished AllocError)
+        → IfOk (document (profile_of settings) B number)
+        (λ read. Finishes read.1 (profile_of settings) settings read.0 result → IfOk result (λ done. node_height done.tree ≤ most_levels)) }
+{}
+
+/// No document that the program prints has more levels than a tree may have, for all settings. That includes the document that says that a line
+/// is too long.
+pub fn printed_documents_are_low()
+    ensures { (settings : Settings) (lines : Block)
+        → IfOk (read_of (profile_of settings) lines) (λ read. node_height (leaves read.1 (profile_of settings) settings read.0).0 ≤ most_levels) }
+{}
+
+/// For all inputs and all settings, what is left of the document that is read is a tree: it has no more levels than a tree may have, and no text in
+/// it has a line end but LF. That includes the document that says that a line is too long.
+pub fn printed_documents_are_trees()
+    ensures { (settings : Settings) (bytes : List ℕ) (document : Node) (notes : List Note)
+        → IsLeftOf (profile_of settings) settings (text_of bytes) document notes → IsTree document }
 {}

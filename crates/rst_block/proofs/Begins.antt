@@ -25,7 +25,7 @@ first_is P d low deep = by (nat_le d deepest) refl
     by false e = deep (leb-false d deepest e)
 
 pub first_now : (B : Block) (l : OpenBlock) → IsNew l → l.depth ≤ suc deepest → IsNow B l (first_step l.depth)
-first_now B l new h = first_is (IsNow B l) l.depth (λ k. k) (λ k. (new, h))
+first_now B l new h = first_is (IsNow B l) l.depth (λ k. k) (λ k. (new, omega (arith, h, k)))
 
 pub first_comes : (l : OpenBlock) (B : Block) (n : ℕ) → IsNew l → comes l B (first_step l.depth) n ≡ comes l B Begin n
 first_comes l B n new = first_is (λ s. comes l B s n ≡ comes l B Begin n) l.depth (reads_all l B n new) (λ k. refl)

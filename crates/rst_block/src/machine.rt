@@ -1,6 +1,7 @@
 //! The machine: the constructs of a block one after the other, and the blocks inside them.
 ghost use Rattle.std.specs.Prelude.{◌≡◌, Ok, suc, ◌+◌, ◌-◌, ◌<◌, ◌≤◌, ◌++◌, ◌∷◌, [], drop, length, take, IfNone, IfOk, IsTrue};
 ghost use Rattle.rst_text.specs.Lines.{are_lines};
+ghost use Rattle.rst_text.specs.MayCut.{are_texts};
 ghost use Rattle.rst_text.specs.Looked.{Looked, capped};
 ghost use Rattle.rst_text.specs.ViewBlock.{block_of, source_of};
 ghost use Rattle.rst_markup_blocks.specs.Parts.{IsBlock};
@@ -50,7 +51,8 @@ pub(crate) fn read(
     ensures depth { IfOk result (λ _. level.new.depth ≡ level.old.depth) }
     ensures read { Keeps result (λ _. just (done_of level.new) pass.new.numbers) (text_items level.old.depth lines.now pass.old.numbers) }
     ensures paid { IfOk result (λ _. TakesFor (total_at level.old.depth lines.now) pass.old.looks pass.new.looks) }
-    ensures lines { IfOk result (λ _. IsTrue (are_lines lines.now)) }
+    ensures lines { IsTrue (are_lines lines.now) }
+    ensures texts { IsTrue (are_texts lines.now) }
 {
     let whole = View::whole(lines);
     let depth = level.depth;
@@ -132,7 +134,7 @@ fn read_on<'a>(
     }
 }
 
-/// How a block begins or goes on that is read from here: with its next line, unless it is below the last level.
+/// The first step in a block: its next line comes, unless the block is below the last level.
 fn first_step(level: &OpenBlock) -> Step
     ensures { result ≡ first_step level.now.depth }
 {
@@ -142,17 +144,14 @@ fn first_step(level: &OpenBlock) -> Step
     Step::Next
 }
 
-/// What comes first in a block of which nothing was read: its first line. Below the last level it must be blank.
+/// What comes in a block below the last level, of which nothing was read: its end, if it is blank.
 fn begin(view: &View<'_>, level: &OpenBlock, pass: &mut Pass) -> Result<Step>
     requires new { IsNew level.now }
-    requires depth { level.now.depth ≤ 251 }
+    requires depth { level.now.depth ≡ 251 }
     ensures now { IfOk result (λ s. IsNow (block_of view.now) level.now s) }
     ensures less { let n = length (block_of view.now) in IfOk result (λ s. cost n level.now.at s < cost n level.now.at Begin) }
     ensures goes { ContinuesFrom (block_of view.now) level.now Begin pass.old level.now pass.new result }
 {
-    if level.depth <= DEEPEST {
-        return Ok(Step::Next);
-    }
     not_blank(view, pass)?;
     Ok(Step::Done)
 }

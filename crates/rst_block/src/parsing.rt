@@ -2,7 +2,7 @@
 ghost use Rattle.rst_settings.specs.Profile.{profile_of};
 ghost use Rattle.rst_settings.specs.declared.Settings.{Settings};
 ghost use Rattle.rst_block_state.specs.looks.Budget.{IsWithinBounds};
-ghost use Rattle.rst_block.specs.Documents as spec;
+ghost use Rattle.rst_block_state.specs.Documents as spec;
 ghost use Rattle.std.specs.Prelude.{IfOk};
 
 use super::frames::Frames;

@@ -15,6 +15,7 @@ pub mod Directives
 pub mod Markup
 pub mod Titles
 pub mod Nodes
+pub mod Documents
 pub mod Inside
 pub mod Reads
 pub mod machine

@@ -95,11 +95,11 @@ fn bytes_as(
     let mut bytes = Vec::new(alloc);
     match form {
         Form::DocumentJson => {
-            put_node(alloc, &finished.tree, &mut bytes)?;
+            put_node(alloc, finished.tree.root(), &mut bytes)?;
             Ok(bytes)
         }
         Form::DocumentRecords => {
-            put_record(alloc, &finished.tree, &mut bytes)?;
+            put_record(alloc, finished.tree.root(), &mut bytes)?;
             Ok(bytes)
         }
         Form::MessagesJson => notes_json(alloc, finished.notes.as_slice(), settings),

@@ -54,7 +54,9 @@ impl<'a> View<'a> {
 
     /// All the lines, without a cut.
     pub fn whole(lines: &'a Lines) -> View<'a>
-        ensures { block_of result ≡ lines.now }
+        ensures block { block_of result ≡ lines.now }
+        ensures lines { IsTrue (are_lines lines.now) }
+        ensures texts { IsTrue (are_texts lines.now) }
     {
         View {
             lines,

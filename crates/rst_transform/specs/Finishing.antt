@@ -4,14 +4,12 @@ use Rattle.rst_settings.specs.Profile.{Profile}
 use Rattle.rst_settings.specs.declared.Settings.{Settings}
 use Rattle.std.specs.declared.alloc.AllocError.{AllocError}
 use Rattle.rst_tree.specs.declared.node.Node.{Node}
-use Rattle.rst_tree.specs.declared.node.Node.TheVariants.{Element, Text}
 use Rattle.rst_tree.specs.declared.note.Note.{Note}
-use Rattle.rst_tree.specs.Forest.{bare}
 use Rattle.rst_transform_names.specs.Registering.{registration, Registration}
 use Rattle.rst_transform_work.specs.declared.document.Document.{Document}
 use Rattle.rst_transform_work.specs.declared.report.Report.{Report}
 use Rattle.rst_transform_work.specs.Known.{Known}
-use Rattle.rst_transform_work.specs.States.{document_node}
+use Rattle.rst_transform_work.specs.States.{document_in, document_node}
 use Rattle.rst_transform_substitutions.specs.Expanded.{with_expansions}
 use Rattle.rst_transform_structure.specs.LastSection.{with_last_section}
 use Rattle.rst_transform_structure.specs.Targets.{with_targets}
@@ -44,11 +42,6 @@ transformed profile settings document known =
     let informed = asked profile.docinfo with_docinfo titled.0 titled.1 in
     let linked = with_links informed.0 informed.1 in
     with_transitions linked.0 linked.1
-
--- the document that a node is
-abbrev pub document_in : Node → Document
-document_in (Element t a c l) = record { attrs = a; children = c; line = l }
-document_in (Text t) = record { attrs = []; children = bare; line = 0 }
 
 -- what is known before the transforms; `messages` numbers were given to messages
 abbrev pub known_at_first : ℕ → Registration → Known

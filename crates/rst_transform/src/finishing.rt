@@ -5,11 +5,10 @@ ghost use Rattle.rst_settings.specs.Profile.{profile_of};
 ghost use Rattle.rst_tree.specs.Walk.{items};
 ghost use Rattle.rst_transform_messages.specs.Early.{is_early};
 ghost use Rattle.rst_transform_work.specs.Known.{Makes};
-ghost use Rattle.rst_transform_work.specs.States.{IsDocument};
 ghost use Rattle.rst_transform_messages.specs.Messages.{highest_level};
 ghost use Rattle.rst_transform_structure.specs.Targets.{with_targets};
 ghost use Rattle.rst_transform_substitutions.specs.Expanded.{with_expansions};
-ghost use Rattle.rst_transform.specs.Finishing.{transformed, Finishes};
+ghost use Rattle.rst_transform.specs.Finishing.{leaves, transformed, Finishes};
 
 use crate::linking::resolve_links;
 use rst_settings::Settings;
@@ -23,15 +22,18 @@ use rst_transform_structure::title::title;
 use rst_transform_structure::transitions::transitions;
 use rst_transform_substitutions::expand::expand;
 use rst_transform_work::{Context, Document};
-use rst_tree::{Node, Note, Result};
+use rst_tree::{Node, Note, Result, Tree};
 use rst_tree_index::Parsed;
-use std::alloc::Global;
+use std::alloc::{AllocError, Global};
+
+/// Why a document isn't finished: memory ran out.
+pub type TransformFault = AllocError;
 
 /// A document as it is printed, and the messages of the run.
 #[derive(Debug, Drop)]
 pub struct Finished {
     /// The document, without what isn't printed, and without `source`, which is added where it is printed.
-    pub tree: Node,
+    pub tree: Tree,
     /// The messages in order, up to the first that halts the run.
     pub notes: Vec<Note>,
     /// The number of the highest level among these, 0 where there are none.
@@ -41,12 +43,29 @@ pub struct Finished {
 /// Finishes a parsed document: names and ids, then all transforms, the last section, and the messages below the report level taken out
 /// (Document Tree, 'Introduction').
 ///
-/// Fails only if memory runs out.
-pub fn finish(alloc: Global, parsed: Parsed, settings: &Settings) -> Result<Finished>
-    requires document { IsDocument parsed.tree }
+/// The only refusal is [`TransformFault`].
+pub fn finish(
+    alloc: Global,
+    parsed: Parsed,
+    settings: &Settings,
+) -> Result<Finished, TransformFault>
     ensures finishes { Finishes parsed.messages (profile_of settings.now) settings.now parsed.tree result }
     ensures highest { IfOk result (λ done. done.highest ≡ highest_level done.notes.items) }
     ensures few { IfOk result (λ done. done.highest ≤ 4) }
+{
+    let (root, notes, highest) = left_of(alloc, parsed, settings)?;
+    Ok(Finished {
+        tree: Tree::made(root),
+        notes,
+        highest,
+    })
+}
+
+/// What is left of a parsed document: the document as it is printed, the messages, and the number of the highest level among these.
+fn left_of(alloc: Global, parsed: Parsed, settings: &Settings) -> Result<(Node, Vec<Note>, u8)>
+    ensures left { IfOk result (λ left. let leaves = leaves parsed.messages (profile_of settings.now) settings.now parsed.tree in (left.0 ≡ leaves.0) × (left.1.items ≡ leaves.1)) }
+    ensures highest { IfOk result (λ left. left.2 ≡ highest_level left.1.items) }
+    ensures few { IfOk result (λ left. left.2 ≤ 4) }
 {
     let messages = parsed.messages;
     let registered = register(alloc, parsed.tree, messages)?;
@@ -71,11 +90,7 @@ pub fn finish(alloc: Global, parsed: Parsed, settings: &Settings) -> Result<Fini
     list.add_reports(context.reports)?;
     let filtered_document = filter(alloc, sectioned, settings.report, list.reported())?;
     let (notes, highest) = list.end();
-    Ok(Finished {
-        tree: filtered_document.into_node(),
-        notes,
-        highest,
-    })
+    Ok((filtered_document.into_node(), notes, highest))
 }
 
 /// A document after all transforms, in order. It may have something `early`: what the first ones act on.

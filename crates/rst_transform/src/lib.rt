@@ -6,5 +6,5 @@ pub mod laws;
 mod linking;
 pub mod rows;
 
-pub use finishing::{Finished, finish};
+pub use finishing::{Finished, TransformFault, finish};
 pub use rst_settings::Settings;

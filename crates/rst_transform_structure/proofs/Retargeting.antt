@@ -11,7 +11,6 @@ use Rattle.rst_tree.specs.declared.attrs.Attr.{Attr}
 use Rattle.rst_tree.specs.declared.key.Key.{Key}
 use Rattle.rst_tree.specs.declared.key.Key.TheVariants.{Ids, Names as OfNames}
 use Rattle.rst_tree.specs.declared.node.Node.{Node}
-use Rattle.rst_tree.specs.declared.node.Node.TheVariants.{Element, Text}
 use Rattle.rst_tree.specs.Attributes.{value_of, without_key}
 use Rattle.rst_tree.specs.KeyNames.{is_same}
 use Rattle.rst_tree.specs.Forest.{Forest, bare, element, words}
@@ -23,7 +22,8 @@ use Rattle.rst_transform_work.specs.declared.document.Document.{Document}
 use Rattle.rst_transform_work.specs.Known.{Makes}
 use Rattle.rst_transform_work.specs.Lists.{listed_texts}
 use Rattle.rst_transform_work.specs.Reading.{members_in}
-use Rattle.rst_transform_work.specs.States.{document_node, elements_of, node_tag, IsDocument}
+use Rattle.rst_tree.specs.Nodes.{node_tag, IsDocument}
+use Rattle.rst_transform_work.specs.States.{document_in, document_node, elements_of}
 use Rattle.rst_transform_work.proofs.Holding.{makes_names}
 use Rattle.rst_transform_structure.specs.Passing.{passed, Passes}
 use Rattle.rst_transform_structure.specs.Targets.{at_first, changed_item, handed, next_reached, reached, takers, takes_ids, with_targets, TakesTaker, Reached}
@@ -39,11 +39,6 @@ takers_read level (element t a c l r) old new read =
     ∙ ap (λ ts. old ++ takes_ids t ∷ ts) (sym (map-append (λ (x : Item). takes_ids x.tag) (items c) (items r)))
 
 -- ---- the document
-
--- a node as a document
-abbrev document_in : Node → Document
-document_in (Element t a c l) = record { attrs = a; children = c; line = l }
-document_in (Text t) = record { attrs = []; children = bare; line = 0 }
 
 pub is_document : (d : Document) (root done : Node) (r : Reached) → root ≡ document_node d → done ≡ walked_node next_reached changed_item r root → IsDocument done
 is_document d root done r is left_by = ap node_tag (left_by ∙ ap (walked_node next_reached changed_item r) is)

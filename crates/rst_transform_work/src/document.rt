@@ -1,6 +1,7 @@
 //! The document that transforms change.
 ghost use Rattle.std.specs.Prelude.{◌≡◌};
-ghost use Rattle.rst_transform_work.specs.States.{document_node, IsDocument};
+ghost use Rattle.rst_tree.specs.Nodes.{IsDocument};
+ghost use Rattle.rst_transform_work.specs.States.{document_node};
 
 use crate::texts::element;
 use rst_tree::{Attrs, Children, Node, Tag};

@@ -6,7 +6,6 @@ use Rattle.rst_tree.specs.declared.node.Node.{Node}
 use Rattle.rst_tree.specs.declared.node.Node.TheVariants.{Element, Text}
 use Rattle.rst_tree.specs.Nodes.{nodes_of, node_height}
 use Rattle.rst_tree.specs.Paths.{node_at, map_at, changed_at, with_child}
-use Rattle.rst_tree.specs.Attributes.{are_keys_in_order}
 use Rattle.rst_tree.specs.Tree.{is_sound_node, is_tree, is_tree_within, fits, is_element, most_levels}
 use Rattle.rst_tree.specs.Law.{FitsWithinLevels}
 use Rattle.rst_tree.proofs.Fitting.{Within, NodeWithin, within_parts, pushed_tree}
@@ -26,10 +25,10 @@ changed_fits f at P m (suc i) (n ∷ ns) tells h k = changed_fits f at P m i ns 
 pushed_within : (x : Node) (at : List ℕ) (m : ℕ) (n : Node) → is_element (node_at at n) ≡ true → NodeWithin m (changed_at (with_child x) at n)
     → (length at + 1 + node_height x ≤ m) × (is_sound_node x ≡ true)
 pushed_within x [] m (Element t a c l) h k =
-    let last = last_within (m - 1) x (nodes_of c) (omega (arith, k.0), (and_parts (are_keys_in_order a) _ k.1).1) in (omega (arith, last.0, k.0), last.1)
+    let last = last_within (m - 1) x (nodes_of c) (omega (arith, k.0), k.1) in (omega (arith, last.0, k.0), last.1)
 pushed_within x (i ∷ at) m (Element t a c l) h k =
     let P : Type 0 = (length at + 1 + node_height x ≤ m - 1) × (is_sound_node x ≡ true) in
-    let low : P = changed_fits (changed_at (with_child x) at) at P (m - 1) i (nodes_of c) (λ n g j. pushed_within x at (m - 1) n g j) h (omega (arith, k.0), (and_parts (are_keys_in_order a) _ k.1).1) in
+    let low : P = changed_fits (changed_at (with_child x) at) at P (m - 1) i (nodes_of c) (λ n g j. pushed_within x at (m - 1) n g j) h (omega (arith, k.0), k.1) in
     (omega (arith, low.0, k.0), low.1)
 pushed_within x [] m (Text t) h k = absurd (cc)
 pushed_within x (i ∷ at) m (Text t) h k = absurd (cc)

@@ -14,10 +14,8 @@ use Rattle.rst_tree.specs.Forest.{Forest, height}
 use Rattle.rst_tree.specs.Nodes.{forest_of, nodes_of, node_height}
 use Rattle.rst_tree.specs.declared.attrs.Value.{Value}
 use Rattle.rst_tree.specs.declared.key.Key.{Key}
-use Rattle.rst_tree.proofs.Attributes.{are_keys_in_order-with_attr}
 use Rattle.rst_tree.proofs.Changes.{forest_of-nodes_of, nodes_of-forest_of, slice_get-some, slice_get-none}
 use Rattle.rst_tree.specs.Paths.{node_at, map_at, changed_at, with_child, with_value}
-use Rattle.rst_tree.specs.Attributes.{are_keys_in_order}
 use Rattle.rst_tree.specs.Tree.{is_sound, is_sound_node, is_tree, fits, is_element, most_levels, text_all, text_in}
 
 pub height-cons : (n : Node) (ns : List Node) → height (forest_of (n ∷ ns)) ≡ max (node_height n) (height (forest_of ns))
@@ -55,7 +53,7 @@ within-push m x (n ∷ ns) h k = let j = within_parts m n ns h in within_cons m 
 
 -- what is in an element
 inside : (m : ℕ) (t : Tag) (a : List Attr) (c : Forest) (l : ℕ) → NodeWithin m (Element t a c l) → Within (m - 1) (nodes_of c)
-inside m t a c l h = let e = forest_of-nodes_of c in (rw e (omega (arith, h.0)), ap is_sound e ∙ (and_parts (are_keys_in_order a) _ h.1).1)
+inside m t a c l h = let e = forest_of-nodes_of c in (rw e (omega (arith, h.0)), ap is_sound e ∙ h.1)
 
 -- a change of the node at a path
 within-changed : (f : Node → Node) (at : List ℕ) (m : ℕ) (n : Node) → ((n : Node) → NodeWithin (m - length at) n → NodeWithin (m - length at) (f n)) → NodeWithin m n → NodeWithin m (changed_at f at n)
@@ -65,17 +63,17 @@ within-changed f (i ∷ at) m (Element t a c l) keeps h =
     let j : m - length (i ∷ at) ≡ (m - 1) - length at = omega arith in
     let kept = subst (λ b. (n : Node) → NodeWithin b n → NodeWithin b (f n)) j keeps in
     let top = within-map_at (changed_at f at) i (m - 1) (nodes_of c) (λ n g. within-changed f at (m - 1) n kept g) (inside m t a c l h) in
-    (omega (arith, h.0, top.0), and_from (are_keys_in_order a) _ (and_parts (are_keys_in_order a) _ h.1).0 top.1)
+    (omega (arith, h.0, top.0), top.1)
 
 within-with_child : (x : Node) (m : ℕ) → node_height x + 1 ≤ m → is_sound_node x ≡ true → (n : Node) → NodeWithin m n → NodeWithin m (with_child x n)
 within-with_child x m k s (Text t) h = h
 within-with_child x m k s (Element t a c l) h =
     let top = within-push (m - 1) x (nodes_of c) (inside m t a c l h) (omega arith, s) in
-    (omega (arith, h.0, top.0), and_from (are_keys_in_order a) _ (and_parts (are_keys_in_order a) _ h.1).0 top.1)
+    (omega (arith, h.0, top.0), top.1)
 
 within-with_value : (k : Key) (v : Value) (m : ℕ) (n : Node) → NodeWithin m n → NodeWithin m (with_value k v n)
 within-with_value k v m (Text t) h = h
-within-with_value k v m (Element t a c l) h = let j = and_parts (are_keys_in_order a) (is_sound c) h.1 in (h.0, and_from _ _ (are_keys_in_order-with_attr k v a j.0) j.1)
+within-with_value k v m (Element t a c l) h = h
 
 -- the rest of a path, one place further
 drop_at : (at : List ℕ) (i : ℕ) → i < length at → drop i at ≡ get_or at i 0 ∷ drop (i + 1) at

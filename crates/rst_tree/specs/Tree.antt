@@ -6,7 +6,6 @@ use Rattle.rst_text.specs.Lines.{is_line_end}
 use Rattle.rst_tree.specs.declared.node.Node.{Node}
 use Rattle.rst_tree.specs.declared.node.Node.TheVariants.{Element, Text}
 use Rattle.rst_tree.specs.Forest.{Forest, bare, element, words}
-use Rattle.rst_tree.specs.Attributes.{are_keys_in_order}
 use Rattle.rst_tree.specs.Nodes.{node_height}
 use Rattle.rst_tree.specs.Paths.{node_at, changed_at, with_child}
 
@@ -18,26 +17,26 @@ is_lines t = list_all (λ c. (c == 10) || not (is_line_end c)) (chars t)
 abbrev pub is_plain_byte : ℕ → Bool
 is_plain_byte b = (b == 10) || (nat_lt 31 b && nat_lt b 128)
 
--- each list of attributes is in order, and each text has no line end but LF
+-- no text has a line end but LF
 abbrev pub is_sound : Forest → Bool
 is_sound bare = true
-is_sound (element t a c l r) = (are_keys_in_order a && is_sound c) && is_sound r
+is_sound (element t a c l r) = is_sound c && is_sound r
 is_sound (words t r) = is_lines t && is_sound r
 
 -- the same of one node
 abbrev pub is_sound_node : Node → Bool
-is_sound_node (Element t a c l) = are_keys_in_order a && is_sound c
+is_sound_node (Element t a c l) = is_sound c
 is_sound_node (Text t) = is_lines t
 
 -- the most that nodes nest
 abbrev pub most_levels : ℕ
 most_levels = 1350
 
--- the nodes nest no deeper than a number of levels, the attributes are in order, and the texts hold no line end but LF
+-- the nodes nest no deeper than a number of levels, and the texts hold no line end but LF
 abbrev pub is_tree_within : Node → ℕ → Bool
 is_tree_within n levels = nat_le (node_height n) levels && is_sound_node n
 
--- the attributes are in order, the texts hold no line end but LF, and the nodes don't nest too deep
+-- The texts hold no line end but LF, and the nodes don't nest too deep. That attributes are in order, each name once, is said of each list of them.
 abbrev pub is_tree : Node → Bool
 is_tree n = is_tree_within n most_levels
 

@@ -86,13 +86,6 @@ impl Attrs {
         self.list.as_slice()
     }
 
-    /// The names rise. Nothing is done: callers learn it.
-    pub fn are_in_order(&self)
-        ensures { are_keys_in_order self.now ≡ true }
-    {
-        let _ = &self.list;
-    }
-
     /// The value of the attribute of a name, if there is one.
     pub fn get(&self, key: Key) -> Option<ValueRef<'_>>
         ensures { MatchOption result (value_of key self.now ≡ None) (λ v. value_of key self.now ≡ Some (as_value v)) }

@@ -34,10 +34,10 @@ pub fn print<W: WriteCall>(tree: &Tree, out: &mut Counted<W>) -> Result<(), Prin
 }
 
 /// Prints a document to a writer that hasn't failed, with its source as an attribute of the document and of its messages
-/// (Document Tree, `source`). The nodes themselves needn't have these attributes, so that nobody goes through them for that. Any
-/// node can be printed, so nobody needs to know that it is a [`Tree`].
+/// (Document Tree, `source`). The nodes themselves needn't have these attributes, so that nobody goes
+/// through them for that.
 pub fn print_with_source<W: WriteCall>(
-    document: &Node,
+    document: &Tree,
     source: &str,
     out: &mut Counted<W>,
 ) -> Result<(), PrintFault>
@@ -45,7 +45,7 @@ pub fn print_with_source<W: WriteCall>(
     ensures prints { Prints (between W.contents out.old out.new) (print_of (with_printed_attrs (Some source.now) document.now)) result }
     ensures calls { IsSent W.call_takes W.contents out.old out.new (print_of (with_printed_attrs (Some source.now) document.now)) }
 {
-    print_given(document, Some(source), out)
+    print_given(document.root(), Some(source), out)
 }
 
 /// Prints a node, with the source if one is given.

@@ -5,3 +5,4 @@ pub mod MarkLengths
 pub mod LinkedTags
 pub mod Kinds
 pub mod Known
+pub mod Parsed

@@ -1,5 +1,5 @@
 -- What holds of any texts holds of each tree, so that laws on levels need nothing of its texts.
-use Rattle.std.proofs.Common.{◌≡◌, ℕ, Bool, true, false, List, arith, refl}
+use Rattle.std.proofs.Common.{◌≡◌, ℕ, Bool, true, false, List, refl}
 use Rattle.std.specs.Prelude.{◌==◌}
 use Rattle.std.specs.List.{slice_split}
 use Rattle.std.specs.Str.{chars}
@@ -10,12 +10,7 @@ use Rattle.rst_tree.specs.declared.attrs.Value.{Value}
 use Rattle.rst_tree.specs.declared.attrs.Value.TheVariants.{Text as TextValue}
 use Rattle.rst_tree.specs.declared.node.Node.{Node}
 use Rattle.rst_tree.specs.declared.node.Node.TheVariants.{Element, Text as Words}
-use Rattle.rst_tree.specs.Forest.{Forest, bare, element, words, height}
-use Rattle.rst_transform_references.specs.FootnoteLabels.{symbols}
-use Rattle.rst_transform_work.specs.declared.document.Document.{Document}
-use Rattle.rst_transform_work.specs.declared.report.Report.{Report}
-use Rattle.rst_transform_work.specs.Known.{Known}
-use Rattle.rst_tree_laws.proofs.Held.{DocumentHeld, KnownHas}
+use Rattle.rst_tree.specs.Forest.{Forest, bare, element, words}
 use Rattle.rst_tree_laws.proofs.Lists.{all_each}
 use Rattle.rst_tree_laws.proofs.Properties.{Suited}
 use Rattle.rst_tree_laws.specs.Texts.{AttrsHave, BlockKept, Kept, NodeHas, TextsHave, ValueHas, becomes_text}
@@ -36,7 +31,6 @@ pub any_suited : Suited any Anything
 any_suited = record {
   fixed = λ c e. refl;
   folds = λ c e. refl;
-  symbols = any_kept symbols;
   encoded = λ cs h. tt;
   decoded = λ t h. any_kept (chars t);
   append = λ t u h k. tt;
@@ -59,9 +53,3 @@ texts_any (words t r) = (tt, texts_any r)
 pub node_any : (n : Node) → NodeHas Anything n
 node_any (Element t a c l) = (attrs_any a, texts_any c)
 node_any (Words t) = tt
-
-pub document_any : (document : Document) → DocumentHeld Anything (height document.children) document
-document_any document = ((omega arith, texts_any document.children), attrs_any document.attrs)
-
-pub known_any : (known : Known) → KnownHas Anything known
-known_any known = all_each (λ (r : Report). Anything r.text) known.reports (λ r. tt)

@@ -11,8 +11,7 @@ use Rattle.rst_text.specs.Escapes.{unescaped}
 use Rattle.rst_text.specs.Names.{name_in, normalized_white, name_of, words_of}
 use Rattle.rst_tree_laws.proofs.Cuts.{dropped_kept, skipped_kept, split_spelled}
 use Rattle.rst_tree_laws.proofs.Lists.{all_append, all_drop, all_map, all_take}
-use Rattle.rst_transform_references.specs.FootnoteLabels.{symbols}
-use Rattle.rst_tree_laws.specs.Texts.{Suits, Kept, Spells, is_fixed}
+use Rattle.rst_tree_laws.specs.Texts.{Kept, Spells, Suits, is_fixed}
 use borrow.Author.Tests.{leb-true}
 
 pub all_filter : {A : Type 0} (Q : A → Type 0) (test : A → Bool) (xs : List A) → AllByRecursion Q xs → AllByRecursion Q (filter test xs)
@@ -59,7 +58,6 @@ module _ (P : ℕ → Bool) where
 pub record Suited (P : ℕ → Bool) (T : List ℕ → Type 0) : Type 0 where
   pub fixed : (c : ℕ) → is_fixed c ≡ true → P c ≡ true
   pub folds : (c : ℕ) → P c ≡ true → P (simple_fold c) ≡ true
-  pub symbols : Kept P symbols
   pub encoded : (cs : Text) → Kept P cs → T (encode_utf8_all cs)
   pub decoded : (t : List ℕ) → T t → Kept P (chars t)
   pub append : (t u : List ℕ) → T t → T u → T (t ++ u)
@@ -74,7 +72,6 @@ pub spelled_suited : (P : ℕ → Bool) → Suits P → Suited P (Spells P)
 spelled_suited P s = record {
   fixed = s.fixed;
   folds = s.folds;
-  symbols = s.symbols;
   encoded = λ cs h. (cs, refl, h);
   decoded = chars_kept;
   split = split_spelled P;

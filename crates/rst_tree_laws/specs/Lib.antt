@@ -1,4 +1,3 @@
 pub mod Levels
-pub mod TransformLevels
 pub mod Texts
 pub mod Trees

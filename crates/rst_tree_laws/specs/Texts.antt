@@ -15,7 +15,6 @@ use Rattle.rst_tree.specs.declared.key.Key.TheVariants.{OwnName, Rawsource, Refn
 use Rattle.rst_tree.specs.declared.node.Node.{Node}
 use Rattle.rst_tree.specs.declared.node.Node.TheVariants.{Element, Text as Words}
 use Rattle.rst_tree.specs.declared.note.Note.{Note}
-use Rattle.rst_transform_references.specs.FootnoteLabels.{symbols}
 use Rattle.rst_tree.specs.Forest.{Forest, bare, element, words}
 
 -- ---- texts
@@ -36,11 +35,10 @@ BlockKept P B = AllByRecursion (λ (l : Line). Kept P l.text) B
 abbrev pub is_fixed : ℕ → Bool
 is_fixed c = nat_le c 126 && (nat_le 32 c || c == 10)
 
--- A test that fixed texts and the symbols of footnotes pass, and, with a character, what it folds to. Only scalar values pass it.
+-- A test that fixed texts pass and, with a character, what it folds to. Only scalar values pass it.
 pub record Suits (P : ℕ → Bool) : Type 0 where
   pub fixed : (c : ℕ) → is_fixed c ≡ true → P c ≡ true
   pub folds : (c : ℕ) → P c ≡ true → P (simple_fold c) ≡ true
-  pub symbols : Kept P symbols
   pub scalar : (c : ℕ) → P c ≡ true → IsScalar c
 
 -- ---- trees whose texts have a property

@@ -1,5 +1,5 @@
-//! How many levels trees have, and of what their texts consist.
+//! Of what the texts of trees consist.
 #![tactic(auto)]
 
-/// Laws on trees.
+/// Laws on texts.
 pub mod laws;

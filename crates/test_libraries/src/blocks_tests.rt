@@ -1,4 +1,5 @@
 //! Documents that are read: their trees, how many looks at lines they take, and how deep blocks may be nested.
+use super::tree_tests::tree_of;
 use rst_block::{BlockFault, parse};
 use rst_text::{Counted, Lines};
 use rst_tree::print_with_source;
@@ -43,8 +44,9 @@ fn reads_documents(rt: HostRuntime) -> Result<(), Fail> {
     for &(text, want) in DOCUMENTS {
         let lines = Lines::of(alloc, text, 8)?;
         let parsed = parse(alloc, &lines)?;
+        let tree = tree_of(parsed.tree.into_root())?;
         let mut out = Counted::of(Vec::new(alloc));
-        print_with_source(parsed.tree.root(), "s", &mut out)?;
+        print_with_source(&tree, "s", &mut out)?;
         let got = str::from_utf8(out.inner().as_slice())?;
         assert_eq!(rt; got, want, "{text}");
     }

@@ -14,7 +14,7 @@ use rst_settings::Settings;
 use rst_text::{Counted, Lines, Looks, TextFault, View, decode, id_of, name_of, normalized_white};
 use rst_transform::finish;
 use rst_tree::{Key, Node, Tag, Tree, Value, print};
-use rst_tree_index::{Marked, Parsed};
+use rst_tree_index::Marked;
 use std::alloc::{AllocError, Global};
 use std::process::Abort;
 
@@ -471,11 +471,12 @@ fn finishes_documents(rt: HostRuntime) {
     let settings = Settings::usual();
     let mut refusals = Refusals::none();
     for _ in 0..2 {
-        let Ok(parsed) = unresolved(alloc) else {
-            return;
-        };
-        let Ok(parsed) = Parsed::of(alloc, parsed.into_node()) else {
-            return;
+        let parsed = match unresolved(alloc) {
+            Ok(parsed) => parsed,
+            Err(fault) => {
+                assert!(rt; fault == BlockFault::NoMemory);
+                return;
+            }
         };
         match finish(alloc, parsed, &settings) {
             Ok(finished) => {

@@ -17,7 +17,7 @@ use std::test::Fail;
 
 /// The value of an attribute of a test's element.
 #[derive(Clone, Copy)]
-pub enum Says<'a> {
+enum Says<'a> {
     Text(&'a str),
     Number(u64),
     List(&'a [&'a str]),
@@ -43,7 +43,7 @@ pub fn text(alloc: Global, given: &str) -> Result<Node, AllocError> {
 }
 
 /// An element with attributes, which come in any order, and nodes in it.
-pub fn element<const N: usize>(
+fn element<const N: usize>(
     alloc: Global,
     tag: Tag,
     given: &[(Key, Says<'_>)],
@@ -62,7 +62,7 @@ pub fn element<const N: usize>(
 }
 
 /// An element that contains one text.
-pub fn holding(alloc: Global, tag: Tag, given: &str) -> Result<Node, AllocError> {
+fn holding(alloc: Global, tag: Tag, given: &str) -> Result<Node, AllocError> {
     element(alloc, tag, &[], [text(alloc, given)?])
 }
 
@@ -84,17 +84,21 @@ pub fn titled(alloc: Global) -> Result<Node, AllocError> {
     )
 }
 
-/// A root as it is printed, if it is a tree.
-pub fn printed(alloc: Global, root: Node) -> Result<String, Fail> {
+/// A root as a tree, if it is one.
+pub fn tree_of(root: Node) -> Result<Tree, Fail> {
     match Tree::of(root) {
-        Ok(tree) => {
-            let mut out = Counted::of(Vec::new(alloc));
-            print(&tree, &mut out)?;
-            let text = str::from_utf8(out.inner().as_slice())?;
-            Ok(String::from_str(alloc, text)?)
-        }
+        Ok(tree) => Ok(tree),
         Err(_) => Err(Fail::new("no tree")),
     }
+}
+
+/// A root as it is printed, if it is a tree.
+pub fn printed(alloc: Global, root: Node) -> Result<String, Fail> {
+    let tree = tree_of(root)?;
+    let mut out = Counted::of(Vec::new(alloc));
+    print(&tree, &mut out)?;
+    let text = str::from_utf8(out.inner().as_slice())?;
+    Ok(String::from_str(alloc, text)?)
 }
 
 /// Elements nested so deep, the innermost without nodes.
@@ -190,8 +194,9 @@ fn tells_the_source(rt: HostRuntime) -> Result<(), Fail> {
     )?;
     let title = [(Key::Title, Says::Text("A"))];
     let document = element(alloc, Tag::Document, &title, [message])?;
+    let tree = tree_of(document)?;
     let mut out = Counted::of(Vec::new(alloc));
-    print_with_source(&document, "s.rst", &mut out)?;
+    print_with_source(&tree, "s.rst", &mut out)?;
     let got = str::from_utf8(out.inner().as_slice())?;
     assert_eq!(rt; got, WITH_SOURCE);
     Ok(())

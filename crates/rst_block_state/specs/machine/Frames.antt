@@ -33,7 +33,7 @@ AreNested depth (f ∷ fs) = (f.level.depth ≡ depth) × AreNested (suc depth) 
 
 -- what may come next in a block; below the last level it is nothing but the block's begin and its end
 abbrev pub IsNow : Block → OpenBlock → Step → Type 0
-IsNow B l Begin = IsNew l × (l.depth ≤ suc deepest)
+IsNow B l Begin = IsNew l × (l.depth ≡ suc deepest)
 IsNow B l Next = l.depth ≤ deepest
 IsNow B l (Open w first second) = (l.depth ≤ deepest) × IsBlock B first × IsBlockIf B second × IsWaiting B l.at w
 IsNow B l (Cells table) = (l.depth ≤ deepest) × (l.at < length B) × IsTable l.at table

@@ -3,9 +3,7 @@ use Rattle.std.proofs.lemmas.List.{drop_all, nil_from_length, take_all}
 use Rattle.std.proofs.lemmas.Result.{IfOk-weaker}
 use Rattle.std.specs.Vec.Iter.{into_iter_items}
 use Rattle.rst_text.specs.Block.{Block}
-use Rattle.rst_text.specs.Lines.{are_lines}
 use Rattle.rst_text.specs.ViewBlock.{block_of, source_of}
-use Rattle.rst_text.proofs.Cuts.{are_lines-block_of}
 use Rattle.rst_tree.specs.declared.node.Node.{Node}
 use Rattle.rst_tree.specs.declared.tag.Tag.TheVariants.{Row}
 use Rattle.rst_markup_tables.specs.declared.results.TableResult.TheVariants.{Table}
@@ -87,25 +85,22 @@ read-returns-in-None-clause-read t c =
     let last = rw c.in-None.is at c.in_ok-read_on.ensures.last in
     let none : drop c.len-base.result c.read_on.new.frames ≡ [] = drop_all c.len-base.result c.read_on.new.frames (omega (arith, last)) in
     sym (plug_alone (source_of c.whole-whole.result) (drop c.len-base.result c.read_on.new.frames) (just (done_of c.read_on.new.level)) c.read_on.new.pass.numbers none)
-    ∙ (rw c.in-None.is at c.in_ok-read_on.ensures.read ∙ c.loop-table.invariant.read ∙ ap (λ X. text_items c.args.level.now.depth X c.args.pass.now.numbers) c.whole-whole.ensures)
+    ∙ (rw c.in-None.is at c.in_ok-read_on.ensures.read ∙ c.loop-table.invariant.read ∙ ap (λ X. text_items c.args.level.now.depth X c.args.pass.now.numbers) c.whole-whole.ensures.block)
 
 pub read-returns-in-None-clause-paid : goal.read-returns-in-None-clause-paid
 read-returns-in-None-clause-paid t c =
     let last = rw c.in-None.is at c.in_ok-read_on.ensures.last in
     let none : drop c.len-base.result c.read_on.new.frames ≡ [] = drop_all c.len-base.result c.read_on.new.frames (omega (arith, last)) in
-    subst (λ X. TakesFor (total_at c.args.level.now.depth X) c.args.pass.now.looks c.read_on.new.pass.looks) c.whole-whole.ensures
+    subst (λ X. TakesFor (total_at c.args.level.now.depth X) c.args.pass.now.looks c.read_on.new.pass.looks) c.whole-whole.ensures.block
     (text_ends _ (source_of c.whole-whole.result) (drop c.len-base.result c.read_on.new.frames) c.read_on.new.level (block_of c.read_on.new.view) _ _ none
     (takes_then c.loop-table.invariant.paid (rw c.in-None.is at c.in_ok-read_on.ensures.paid)))
-
-pub read-returns-in-None-clause-lines : goal.read-returns-in-None-clause-lines
-read-returns-in-None-clause-lines t c = ap are_lines (sym c.whole-whole.ensures) ∙ are_lines-block_of c.whole-whole.result
 
 pub read-returns-in_err-cells-in-Some-clause-read : goal.read-returns-in_err-cells-in-Some-clause-read
 read-returns-in_err-cells-in-Some-clause-read t c =
     let read = rw c.in-Some.is at c.in_ok-read_on.ensures.read in
     refuses _ c.in_err-cells-in-Some.field-0.0 _ _ (search rules)
     (plug_fails (source_of c.whole-whole.result) (drop c.len-base.result c.read_on.new.frames) (comes c.read_on.new.level (block_of c.read_on.new.view) (Cells c.in-Some.table)) c.read_on.new.pass.numbers
-    (text_items c.args.level.now.depth c.args.lines.now c.args.pass.now.numbers) c.in_err-cells-in-Some.field-0.0 _ _ (read ∙ c.loop-table.invariant.read ∙ ap (λ X. text_items c.args.level.now.depth X c.args.pass.now.numbers) c.whole-whole.ensures) c.in_err-cells-in-Some.ensures.read)
+    (text_items c.args.level.now.depth c.args.lines.now c.args.pass.now.numbers) c.in_err-cells-in-Some.field-0.0 _ _ (read ∙ c.loop-table.invariant.read ∙ ap (λ X. text_items c.args.level.now.depth X c.args.pass.now.numbers) c.whole-whole.ensures.block) c.in_err-cells-in-Some.ensures.read)
 
 pub cells-returns-in_err-made-clause-read : goal.cells-returns-in_err-made-clause-read
 cells-returns-in_err-made-clause-read t c =

@@ -18,4 +18,5 @@ unfolding block_of
 returns c =
     let holds = c.lines.invariant in
     let size : c.lines.inside.count ≡ length c.args.lines.now = sym (length-kept_lines _ _ _ _ holds.kept_so) ∙ ap length c.lines.view_is in
-    rw size (whole_lines c.args.lines.now (sym (ap are_texts c.lines.view_is) ∙ holds.of_texts))
+    let texts : are_texts c.args.lines.now ≡ true = sym (ap are_texts c.lines.view_is) ∙ holds.of_texts in
+    record { block = rw size (whole_lines c.args.lines.now texts); lines = sym (ap are_lines c.lines.view_is) ∙ holds.of_lines; texts = texts }

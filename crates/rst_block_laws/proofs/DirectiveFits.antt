@@ -1,0 +1,177 @@
+-- The nodes of directives and of substitution definitions have at most two levels more than the blocks inside, and their texts have a property.
+use Rattle.std.proofs.Common.{ℕ, ◌+◌, ◌≤◌, Bool, true, false, List, [], ◌∷◌, drop, take, Option, None, Some, arith, refl}
+use Rattle.std.specs.Prelude.{codes, encode_utf8_all}
+use Rattle.std.specs.List.{AllByRecursion, fold}
+use Rattle.std.specs.Option.{IfSome, is_some, option_or}
+use Rattle.std.specs.Str.{chars}
+use Rattle.std.proofs.lemmas.Bool.{cond_both}
+use Rattle.rst_text.specs.Block.{Block, first_number, first_text}
+use Rattle.rst_tree.specs.Attributes.{attr, value_of, with_attr}
+use Rattle.rst_tree.specs.declared.attrs.Attr.{Attr}
+use Rattle.rst_tree.specs.declared.attrs.Value.TheVariants.{Text as TextValue}
+use Rattle.rst_tree.specs.declared.key.Key.{Key}
+use Rattle.rst_tree.specs.declared.key.Key.TheVariants.{Classes, Uri}
+use Rattle.rst_tree.specs.declared.node.Node.{Node}
+use Rattle.rst_tree.specs.declared.node.Node.TheVariants.{Element, Text as Words}
+use Rattle.rst_tree.specs.declared.note.Level.{Level}
+use Rattle.rst_tree.specs.declared.note.Level.TheVariants.{Error, Warning}
+use Rattle.rst_tree.specs.declared.tag.Tag.{Tag}
+use Rattle.rst_tree.specs.declared.tag.Tag.TheVariants.{Admonition, Caption as CaptionTag, Comment, Figure as FigureTag, Image, Legend, LiteralBlock, Paragraph, SubstitutionDefinition, Title as TitleTag}
+use Rattle.rst_tree.specs.Forest.{bare}
+use Rattle.rst_tree.specs.Nodes.{forest_of}
+use Rattle.rst_markup_blocks.specs.declared.forms.Invocation.{Invocation}
+use Rattle.rst_markup_blocks.specs.Partition.{Span}
+use Rattle.rst_markup_directives.specs.Argument.{ArgumentMeaning, nothing, title, uri, language}
+use Rattle.rst_markup_directives.specs.declared.found.Content.{Content}
+use Rattle.rst_markup_directives.specs.declared.found.Place.TheVariants.{Substitution}
+use Rattle.rst_markup_directives.specs.declared.kind.ContentKind.{ContentKind}
+use Rattle.rst_markup_directives.specs.declared.kind.ContentKind.TheVariants.{Lines, Caption}
+use Rattle.rst_markup_directives.specs.declared.option.OptionName.{OptionName}
+use Rattle.rst_markup_directives.specs.declared.option.OptionName.TheVariants.{Name}
+use Rattle.rst_markup_directives.specs.Directive.{Read}
+use Rattle.rst_markup_directives.specs.Message.{fault_text}
+use Rattle.rst_markup_directives.specs.Options.{OptionSetting}
+use Rattle.rst_markup_directives.specs.Value.{Meaning}
+use Rattle.rst_markup_directives.specs.Wrong.{Fault, inside as within, no_content, not_in_substitution, unknown_directive}
+use Rattle.rst_block_nodes.specs.Admonitions.{title_class}
+use Rattle.rst_block_nodes.specs.Elements.{preserving, text_nodes}
+use Rattle.rst_block_nodes.specs.Options.{image_node, link_attrs, link_chosen, link_meant, linked_by, with_alt, value_meant, with_value_at}
+use Rattle.rst_block_nodes.specs.Readings.{read_nodes, read_notes}
+use Rattle.rst_block_nodes.specs.Sections.{filled}
+use Rattle.rst_block_nodes.specs.Targets.{may_replace}
+use Rattle.rst_block_nodes.specs.Texts.{counting}
+use Rattle.rst_block_nodes.specs.Values.{normalized, unescaped}
+use Rattle.rst_block_state.specs.Directives.{code_nodes, content_nodes, definition_by, definition_or_error, directive_by, directive_nodes, faulty_name, first_paragraph, right_by, substitution_nodes, titled_element}
+use Rattle.rst_block_state.specs.Figures.{figure_nodes, legend_nodes, message_count}
+use Rattle.rst_block_state.specs.LineRuns.{number_or}
+use Rattle.rst_block_state.specs.Numbered.{just}
+use Rattle.rst_block_state.specs.Texts.{excerpt, joined, lines_in, message_with_lines, span_source, spelled}
+use Rattle.rst_block_state.specs.Within.{Within}
+use Rattle.rst_tree_laws.specs.Texts.{AttrsHave, BlockKept, Kept, ValueHas, becomes_text}
+use Rattle.rst_tree_index.specs.Parsed.{levels_by}
+use Rattle.rst_block_laws.proofs.DirectiveKinds.{FaultHas, ReadHas, called_has}
+use Rattle.rst_block_laws.proofs.DirectiveTexts.{ChoiceHas, NameHas, quoted_has}
+use Rattle.rst_block_laws.proofs.ElementFits.{read_fit}
+use Rattle.rst_block_laws.proofs.MessageFits.{read_notes_fit}
+use Rattle.rst_block_laws.proofs.Fits.{AllFit, Fits, counting_has, definition_fits, filled_fits, fit_forest, fit_more, fit_nodes, message_fits, open_fits}
+use Rattle.rst_block_laws.proofs.Gives.{Gives, after, give, gives}
+use Rattle.rst_tree_laws.proofs.Have.{with_attr_has, without_key_has}
+use Rattle.rst_block_laws.proofs.LineTexts.{excerpt_has, first_kept, joined_kept, lines_kept, source_has, spelled_has}
+use Rattle.rst_tree_laws.proofs.Lists.{all_append, all_drop, all_take}
+use Rattle.rst_tree_laws.proofs.Properties.{Suited, fixed_has, normalized_kept, unescaped_kept}
+use Rattle.rst_block_laws.proofs.Weights.{HoldsAny, Open, light_at}
+use borrow.Author.Tests.{le-leb}
+
+module _ (P : ℕ → Bool) (T : List ℕ → Type 0) (s : Suited P T) (c : Within) (k : ℕ) (some : 3 ≤ k) (inside : (B : Block) → BlockKept P B → Gives (AllFit T k) (c.inner B)) where
+  fault_has : (fault : Fault) (name : List ℕ) → FaultHas P T s fault → T name → T (fault_text fault name)
+  fault_has not_in_substitution name h k = quoted_has P T s (codes "Substitution definition \"") name (codes "\" may hold only image or replace.") refl refl k
+  fault_has unknown_directive name h k = quoted_has P T s (codes "Unknown directive type \"") name (codes "\".") refl refl k
+  fault_has (within w) name h k = s.append _ _ (quoted_has P T s (codes "Error in \"") name (codes "\" directive:\n") refl refl k) h
+  fault_has no_content name h k = quoted_has P T s (codes "Content block expected for the \"") name (codes "\" directive; none found.") refl refl k
+  fault_has _ name h k = fixed_has P T s _ refl
+
+  -- ---- options and images
+
+  -- attributes with those that options give, whichever attribute each of them gives
+  chosen_has : (key : OptionName → Option Key) → ((option : OptionName) (m : Meaning) → NameHas P T s option m → IfSome (key option) (λ k. ValueHas T (becomes_text k) (value_meant m))) → (choices : List OptionSetting) (attrs : List Attr)
+      → AllByRecursion (ChoiceHas P T s) choices → AttrsHave T attrs → AttrsHave T (fold (λ own choice. with_value_at (key choice.0) (value_meant choice.1) own) attrs choices)
+  chosen_has key at [] attrs h own = own
+  chosen_has key at (choice ∷ more) attrs h own =
+      chosen_has key at more _ h.1 (elim (key choice.0) as (λ o. IfSome o (λ k. ValueHas T (becomes_text k) (value_meant choice.1)) → AttrsHave T (with_value_at o (value_meant choice.1) attrs)) [ None ↦ λ g. own | Some k ↦ λ g. with_attr_has T k (value_meant choice.1) attrs g own ] (at choice.0 choice.1 h.0.0))
+
+  give_one : {n : Node} → Fits T (k + 2) n → Gives (AllFit T (k + 2)) (just (n ∷ []))
+  give_one h = give (h, tt)
+
+  -- an image, or the reference round it, which may be in a substitution definition
+  abbrev ImageFits : Node → Type 0
+  ImageFits n = Fits T 2 n × (levels_by 2 (forest_of (n ∷ [])) ≤ 2)
+
+  linked_fits : (choices : List OptionSetting) (a : List Attr) (line : ℕ) → AllByRecursion (ChoiceHas P T s) choices → AttrsHave T a → ImageFits (linked_by (link_chosen choices) (Element Image a bare line) line)
+  linked_fits [] a line h own = ((omega arith, (own, tt)), omega arith)
+  linked_fits (choice ∷ more) a line h own = elim (link_meant choice.1) as (λ o. IfSome o (λ link. AttrsHave T (link_attrs link.0 link.1)) → ImageFits (linked_by (option_or o (link_chosen more)) (Element Image a bare line) line)) [
+    | None ↦ λ k. linked_fits more a line h.1 own
+    | Some link ↦ λ k. ((omega arith, (k, (own, tt, tt))), omega arith)
+  ] h.0.1
+
+  image_fits : (address : List ℕ) (choices : List OptionSetting) (line : ℕ) (figure : Bool) (alt : _) → AllByRecursion (ChoiceHas P T s) choices → AttrsHave T (with_alt alt (attr Uri (TextValue address) ∷ [])) → ImageFits (linked_by (link_chosen choices) (image_node address choices line figure alt) line)
+  image_fits address choices line true alt h own = linked_fits choices _ line h (chosen_has _ (elim [ Name ↦ λ m h. h | _ ↦ λ m h. tt ]) choices (with_alt alt (attr Uri (TextValue address) ∷ [])) h own)
+  image_fits address choices line false alt h own = linked_fits choices _ line h (chosen_has _ (elim [ Name ↦ λ m h. h | _ ↦ λ m h. tt ]) choices (with_alt alt (attr Uri (TextValue address) ∷ [])) h own)
+
+  code_fits : (B : Block) (line : ℕ) (read : Read) (word : Option (List ℕ)) → BlockKept P B → ReadHas P T s read → Gives (AllFit T (k + 2)) (just (code_nodes B line read word))
+  code_fits B line read word b h =
+      give_one (open_fits T LiteralBlock _ line 1 (k + 2) _ (λ c. refl) (with_attr_has T Classes _ _ tt (without_key_has T Classes _ (chosen_has _ (elim [ Name ↦ λ m h. h | _ ↦ λ m h. tt ]) read.options preserving h.1 (tt, tt))))
+      (elim (spelled (lines_in B read.content.second)) as (λ t. T t → AllFit T 1 (text_nodes t)) [ [] ↦ λ h. tt | b ∷ bs ↦ λ h. ((omega arith, h), tt) ] (spelled_has P T s _ (lines_kept P B read.content.second b))) (omega arith))
+
+  titled_fits : (tag t : Tag) (a : List Attr) (line : ℕ) (heading : Node) (more : List Node) → Open t → AttrsHave T a → AllFit T (k + 1) more → Fits T (k + 2) (filled (titled_element tag (Element t a bare line) heading) more)
+  titled_fits Admonition t a line heading more any own h = open_fits T t _ line (k + 1) (k + 2) more any (cond_both (is_some (value_of Classes a)) a (with_attr Classes (title_class heading) a) (AttrsHave T) (λ e. own) (λ e. with_attr_has T Classes _ a tt own)) h (omega arith)
+  titled_fits _ t a line heading more any own h = open_fits T t a line (k + 1) (k + 2) more any own h (omega arith)
+
+  first_fit : (ns : List Node) → AllFit T k ns → AllFit T k (first_paragraph ns)
+  first_fit [] h = tt
+  first_fit (Element Paragraph a content line ∷ ns) h = fit_nodes T k content (omega (arith, h.0.0), h.0.1.1)
+  first_fit (Element _ a content line ∷ ns) h = first_fit ns h.1
+  first_fit (Words t ∷ ns) h = first_fit ns h.1
+
+  legend_fit : (ns : List Node) → AllFit T k ns → AllFit T (k + 1) (legend_nodes ns)
+  legend_fit [] h = tt
+  legend_fit (n ∷ ns) h = (open_fits T Legend [] 0 k (k + 1) (n ∷ ns) (λ c. refl) tt h (omega arith), tt)
+
+  figure_fit : (figure error : Node) (ns : List Node) → HoldsAny figure → Fits T (k + 2) figure → Fits T (k + 2) error → AllFit T k ns → AllFit T (k + 2) (figure_nodes figure error ns)
+  figure_fit figure error (Element Paragraph a content line ∷ ns) any f e h = (
+    filled_fits T figure (Element CaptionTag a content line ∷ legend_nodes (drop (message_count a) ns)) (k + 1) (k + 2) any f ((omega (arith, h.0.0), h.0.1), legend_fit (drop (message_count a) ns) (all_drop _ (message_count a) ns h.1)) (omega arith),
+    fit_more T k (k + 2) (take (message_count a) ns) (omega arith) (all_take _ (message_count a) ns h.1),
+  )
+  figure_fit figure error (Element Comment a bare line ∷ ns) any f e h = (filled_fits T figure (legend_nodes ns) (k + 1) (k + 2) any f (legend_fit ns h.1) (omega arith), tt)
+  figure_fit figure error [] any f e h = (f, tt)
+  figure_fit figure error (n ∷ ns) any f e h = (f, (e, tt))
+
+  content_fit : (B : Block) (content : Content) → BlockKept P B → Gives (AllFit T k) (content_nodes c B content)
+  content_fit B content b = after (inside _ (lines_kept P B content.first b)) (λ nodes low. after (inside _ (lines_kept P B content.second b)) (λ more rest. give (all_append _ nodes more low rest)))
+
+  right_fits : (a : ArgumentMeaning) (kind : ContentKind) (B : Block) (line : ℕ) (read : Read) (lines : List ℕ) → BlockKept P B → ReadHas P T s read → T lines → Gives (AllFit T (k + 2)) (right_by a kind c B line read lines)
+  right_fits nothing Lines B line read lines b h l = code_fits B line read None b h
+  right_fits nothing _ B line read lines b h l =
+      after (content_fit B read.content b) (λ nodes low. give_one (open_fits T read.kind.element _ line k (k + 2) nodes h.0 (chosen_has _ (elim [ Name ↦ λ m h. h | _ ↦ λ m h. tt ]) read.options [] h.1 tt) low (omega arith)))
+  right_fits (title part) kind B line read lines b h l =
+      let text : Block = lines_in B part in let kept : Kept P (joined text) = joined_kept P T s text (lines_kept P B part b) in
+      gives (λ n. (after (content_fit B read.content b) (λ nodes low.
+      let heading = open_fits T TitleTag (counting _) line 3 (k + 1) (read_nodes (joined text) (number_or line text) n) (λ c. refl) (counting_has T _) (read_fit P T s _ _ n kept) (omega arith) in
+      let more = all_append _ (read_notes (joined text) (number_or line text) n) nodes (read_notes_fit P T s (k + 1) (omega arith) _ _ n kept) (fit_more T k (k + 1) nodes (omega arith) low) in
+      give_one (titled_fits read.kind.element read.kind.element _ line _ _ h.0 (chosen_has _ (elim [ Name ↦ λ m h. h | _ ↦ λ m h. tt ]) read.options [] h.1 tt) (heading, more)))).at _)
+  right_fits (uri address) Caption B line read lines b h l =
+      let image = image_fits (encode_utf8_all address) read.options line true None h.1 (tt, tt) in
+      after (content_fit B read.content b) (λ nodes low. give (figure_fit _ _ nodes (λ c. refl) (open_fits T FigureTag _ line 2 (k + 2) (_ ∷ []) (λ c. refl) (chosen_has _ (elim [ Name ↦ λ m h. tt | _ ↦ λ m h. tt ]) read.options [] h.1 tt) (image.0, tt) (omega arith))
+      (message_fits T (k + 2) (omega arith) Error line _ (Some lines) (fixed_has P T s _ refl) l) low))
+  right_fits (uri address) _ B line read lines b h l = let image = image_fits (encode_utf8_all address) read.options line false None h.1 (tt, tt) in give_one (omega (arith, image.0.0), image.0.1)
+  right_fits (language word) _ B line read lines b h l = code_fits B line read (Some (encode_utf8_all word)) b h
+
+  shown_fits : (level : Level) (B : Block) (g : Span) (text : List ℕ) → BlockKept P B → T text → Gives (AllFit T (k + 2)) (just (message_with_lines level (first_number (drop g.start B)) text (span_source B g) ∷ []))
+  shown_fits level B g text b h = give_one (message_fits T (k + 2) (omega arith) level (first_number (drop g.start B)) text (Some (span_source B g)) h (source_has P T s B g b))
+
+  pub directive_fits : (B : Block) (g : Span) (call : Invocation) → BlockKept P B → Gives (AllFit T (k + 2)) (directive_nodes c B g call)
+  directive_fits B g call b =
+      called_has P T s c B g.start call _ b (λ o. Gives (AllFit T (k + 2)) (directive_by o c B g (excerpt (first_text (drop g.start B)) call.name)))
+      (λ read h. right_fits read.argument read.kind.content B (first_number (drop g.start B)) read (span_source B g) b h (source_has P T s B g b))
+      (λ fault part h. shown_fits Error B g _ b (fault_has fault _ h (excerpt_has P T s (first_text (drop g.start B)) call.name (first_kept P (drop g.start B) (all_drop _ g.start B b)))))
+
+  -- ---- substitution definitions
+
+  definition_fit : (a : ArgumentMeaning) (B : Block) (line : ℕ) (name : List ℕ) (read : Read) (lines : List ℕ) → BlockKept P B → ReadHas P T s read → T name → T lines → Gives (AllFit T (k + 2)) (definition_by a c B line name read lines)
+  definition_fit (uri address) B line name read lines b h n l =
+      let image = image_fits (encode_utf8_all address) read.options line false (Some name) h.1 (tt, (tt, tt)) in let held = fit_forest T 2 (_ ∷ []) (image.0, tt) in
+      give_one (light_at SubstitutionDefinition _ (k + 2) (le-leb _ 2 image.1) (omega (arith, held.0)), ((n, tt), held.1))
+  definition_fit _ B line name read lines b h n l =
+      after (content_fit B read.content b) (λ nodes low. let own = first_fit nodes low in give_one (cond_both (may_replace (first_paragraph nodes)) _ _ (Fits T (k + 2))
+      (λ e. (omega (arith, definition_fits T k (first_paragraph nodes) own e), ((n, tt), (fit_forest T k (first_paragraph nodes) own).1)))
+      (λ e. message_fits T (k + 2) (omega arith) Error line _ (Some lines) (s.append _ _ (quoted_has P T s (codes "Substitution definition \"") name (codes "\"") refl refl n) (fixed_has P T s _ refl)) l)))
+
+  normalized_has : (t : List ℕ) → T t → T (normalized (unescaped t))
+  normalized_has t h = s.encoded _ (normalized_kept P T s _ (s.decoded (unescaped t) (s.encoded _ (unescaped_kept P (chars t) (s.decoded t h)))))
+
+  pub substitution_fits : (B : Block) (g : Span) (name : List ℕ) (embedded : Option Invocation) → BlockKept P B → T name → Gives (AllFit T (k + 2)) (substitution_nodes c B g name embedded)
+  substitution_fits B g written None b n = shown_fits Warning B g _ b (s.append _ _ (quoted_has P T s (codes "Substitution definition \"") _ (codes "\"") refl refl (normalized_has written n)) (fixed_has P T s _ refl))
+  substitution_fits B g written (Some call) b n =
+      let name : List ℕ = normalized (unescaped written) in
+      called_has P T s c B g.start call Substitution b (λ o. Gives (AllFit T (k + 2)) (definition_or_error o c B g name (excerpt (first_text (drop g.start B)) call.name)))
+      (λ read h. definition_fit read.argument B (first_number (drop g.start B)) name read (span_source B g) b h (normalized_has written n) (source_has P T s B g b))
+      (λ fault part h. shown_fits Error B g _ b (fault_has fault _ h (elim fault as (λ f. T (faulty_name f name (excerpt (first_text (drop g.start B)) call.name))) [ not_in_substitution ↦ normalized_has written n | _ ↦ excerpt_has P T s (first_text (drop g.start B)) call.name (first_kept P (drop g.start B) (all_drop _ g.start B b)) ])))

@@ -1,0 +1,11 @@
+pub mod Held
+pub mod AnyDocuments
+pub mod ReportTexts
+pub mod TransformLow
+pub mod TransformSubstitutions
+pub mod TransformMessages
+pub mod TransformNames
+pub mod TransformStructure
+pub mod TransformDocinfo
+pub mod TransformLinks
+pub mod LinkTexts

@@ -1,6 +1,0 @@
-use Rattle.std.proofs.Common.{arith}
-use Rattle.rst_tree_laws.proofs.TransformFinishing.{finishing_low}
-use Rattle.rst_tree_laws.proofs.laws.finishing_adds_little.Goals as goal
-
-pub returns : goal.returns
-returns c = record { levels = finishing_low; tree = λ messages profile settings document flat few. omega (arith, finishing_low messages profile settings document flat) }

@@ -1,5 +1,0 @@
-use Rattle.rst_tree_laws.proofs.TransformLinks.{links_low}
-use Rattle.rst_tree_laws.proofs.laws.links_add_little.Goals as goal
-
-pub returns : goal.returns
-returns c = links_low
