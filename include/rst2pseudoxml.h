@@ -24,7 +24,7 @@ extern "C" {
 /* The version of what this header describes. A library of another version has other structs, calls or answers. */
 #define RST_ABI_VERSION 1
 
-/* The options of a call, which are those of the program. Levels are 1 (INFO), 2 (WARNING), 3 (ERROR), 4 (SEVERE) and 5 (none). */
+/* The options of a call: those of the program, and the profile. Levels are 1 (INFO), 2 (WARNING), 3 (ERROR), 4 (SEVERE) and 5 (none). */
 typedef struct rst_options {
     uint32_t size;              /* sizeof(rst_options) */
     uint8_t report;             /* the lowest level of the messages that are shown, --report */
@@ -34,11 +34,12 @@ typedef struct rst_options {
     uint32_t line_length_limit; /* 1 to 16,777,216 characters, --line-length-limit */
     uint8_t no_doc_title;       /* 1: don't make a lone title the document's; or 0 */
     uint8_t no_doc_info;        /* 1: don't turn a leading field list into docinfo; or 0 */
-    uint8_t unused[2];          /* 0 */
+    uint8_t profile;            /* 0: the program's; or 1, the wider one (docs/profile/wider.md), which the program never uses */
+    uint8_t unused;             /* 0 */
 } rst_options;
 
 /* The options of a program that is called with none. */
-#define RST_OPTIONS {sizeof(rst_options), 2, 4, 5, 8, 10000, 0, 0, {0, 0}}
+#define RST_OPTIONS {sizeof(rst_options), 2, 4, 5, 8, 10000, 0, 0, 0, 0}
 
 /* How a call ends. Where it isn't RST_DONE no room is written. Where several ends would do, the first of them is told; RST_NO_MEMORY may take
    the place of those after RST_TOO_LONG. */
@@ -64,7 +65,8 @@ typedef struct rst_result {
 /* RST_ABI_VERSION of the library. */
 uint32_t rst_abi_version(void);
 
-/* What the program writes for a text to standard output (the tree) and standard error (the messages). `source` is the name that both show: the
+/* What the program writes for a text to standard output (the tree) and standard error (the messages), or would write if it had
+   the profile of the options. `source` is the name that both show: the
    program's own for standard input is `<stdin>`. If a message halts the run there is no tree, and the messages end with the line that says so. */
 void rst_print(const uint8_t *text, size_t text_length, const uint8_t *source, size_t source_length, const rst_options *options,
                uint8_t *tree, size_t tree_room, uint8_t *messages, size_t messages_room, rst_result *result);

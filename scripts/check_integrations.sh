@@ -55,6 +55,10 @@ check_pages() {
   echo 'raise SystemExit("this is not the module json")' >json.py
   same 'a module in the folder of the pages' '0 ' "$(answer "$check" good.rst)"
   same 'a link to the script' '0 ' "$(ln -s "$check" linked && answer ./linked good.rst)"
+  echo ':mod:`email`: mail' >role.rst
+  shows 'the wider profile' 1 'role.rst:1: (ERROR/3) Unknown interpreted text role "mod".' "$check" role.rst
+  same 'the base profile' '0 ' "$(answer "$check" --profile=base role.rst)"
+  rm role.rst
 }
 
 check_trees() {

@@ -26,6 +26,7 @@ BELOW = "rst_markup_lines rst_markup_blocks rst_markup_directives rst_markup_tab
 HARMLESS = set(
     "Self usize u64 u128 bool Option Result Ok Err Some None Vec Box ArrayVec Global Model Drop"  # numbers, lists, what is free
     " Attrs Level Marked MarkedIter MarkedNodes Node Note Parsed Tag Value"  # elements
+    " Parts"  # Booleans
     " View Placement Looks AllocError AllocFailed TextFault".split()  # each line of a view costs a look
 )
 SMALL = "char u8 u16 u32"  # one of them is harmless, a list of them may be a text
@@ -54,9 +55,9 @@ HOLD = {
     "joined_nonempty": "char", "option": "str", "push": "N", "replacement": "String", "shortened": "String",
     MACHINE: "Begun Cell Ended Frame Frames LineTest Lines OpenBlock Rows Step TableResult Waits",
 }
-# How many lines there are, their numbers, and where they are; how views and lines are made.
+# How many lines there are, their numbers, where they are, and which parts of the markup hold in them; how views and lines are made.
 FREE = {
-    "View": "Clone Copy whole placement at len number part",
+    "View": "Clone Copy whole placement at len number part parts",
     "Lines": "Debug Drop Model of within numbered count line",
 }
 

@@ -1,6 +1,6 @@
 /* Calls the library as a program in C would, for scripts/check_library.sh.
 
-     library print|json|records|messages REPORT HALT EXIT TAB LIMIT NO_TITLE NO_INFO SOURCE
+     library print|json|records|messages REPORT HALT EXIT TAB LIMIT NO_TITLE NO_INFO PROFILE SOURCE
 
    reads a text from standard input and writes what the call makes of it: the tree or the JSON to standard output, the messages to standard
    error. Of records it writes the tree that they show. The status is the program's. If nothing was made it is 100 and the end of the call, and
@@ -375,12 +375,12 @@ int main(int count, char **words)
         return threads();
     if (count == 2 && !strcmp(words[1], "allocations"))
         return allocations();
-    if (count != 10)
+    if (count != 11)
         broken("see the comment at the head of library.c");
     struct room text = all_of(stdin);
     rst_options options = {sizeof options, (uint8_t)atoi(words[2]), (uint8_t)atoi(words[3]), (uint8_t)atoi(words[4]), (uint8_t)atoi(words[5]),
-                           (uint32_t)atol(words[6]), (uint8_t)atoi(words[7]), (uint8_t)atoi(words[8]), {0, 0}};
-    struct call call = {words[1], text.bytes, text.length, words[9], options};
+                           (uint32_t)atol(words[6]), (uint8_t)atoi(words[7]), (uint8_t)atoi(words[8]), (uint8_t)atoi(words[9]), 0};
+    struct call call = {words[1], text.bytes, text.length, words[10], options};
     int status = told_of(&call);
     free(text.bytes);
     return status;

@@ -6,6 +6,10 @@ inputs of the worked rows, with their options, pages of docs/, mutated in the wa
 text it checks that `print` gives the program's output, its messages and its status, or an end where the program refuses the text; that
 `json` is JSON that shows the same tree, that the records show it too (library.c prints the tree from them), and that `messages` is JSON that
 shows the same messages. The program is the one that scripts/program.sh finds.
+
+Under the wider profile, which the program hasn't, the calls are compared with the trees and messages of scripts/wider.py; and with the program
+on texts that both profiles read alike, which are the worked rows without a colon before a backquote, and those named there. That a profile
+of 2 or 255 is refused is tested too.
 """
 
 import concurrent.futures
@@ -20,6 +24,7 @@ import threading
 
 from program import TOP, program
 from rows import TABLES, Source
+from wider import SAME, WIDER
 
 LEVELS = {"info": 1, "warning": 2, "error": 3, "severe": 4, "none": 5}
 ENDS = (
@@ -29,7 +34,9 @@ ENDS = (
 )
 MUTATIONS = [b"\n", b"*", b"`", b"|", b"_ ", b":", b"  ", b"\t", b"\\", b'"', b"\x01", "\u00e9".encode(), b"\xff"]
 OPTIONS = [[], ["-v"], ["--halt=warning"], ["--exit-status=info", "--no-doc-info"], ["--no-doc-title", "--tab-width=3", "--strict"]]
-PLACES = ("report", "halt", "exit-status", "tab-width", "line-length-limit", "no-doc-title", "no-doc-info")
+PLACES = ("report", "halt", "exit-status", "tab-width", "line-length-limit", "no-doc-title", "no-doc-info", "profile")
+WIDER_PROFILE = "--profile=1"
+CALLS = ("print", "json", "records", "messages")
 WORDS = {"-v": "--report=info", "--verbose": "--report=info", "-q": "--report=none", "--quiet": "--report=none", "--strict": "--halt=info"}
 
 
@@ -40,8 +47,8 @@ SMALL_STACK = ["sh", "-c", 'ulimit -s 2048 && exec "$@"', "sh"]
 
 
 def options(words):
-    """The options that arguments of the program give, as library.c takes them."""
-    chosen = dict(zip(PLACES, ["2", "4", "5", "8", "10000", "0", "0"]))
+    """The options that arguments of the program give, as library.c takes them; --profile=N is that of the library."""
+    chosen = dict(zip(PLACES, ["2", "4", "5", "8", "10000", "0", "0", "0"]))
     words = iter(words)
     for word in words:
         word = WORDS.get(word, word)
@@ -102,30 +109,45 @@ class Comparison:
         done = subprocess.run([*SMALL_STACK, self.library, name, *options(words), "<stdin>"], input=text, capture_output=True, check=False)
         return done.stdout, done.stderr, done.returncode
 
-    def fault(self, words, text):
-        """What is wrong, if something is."""
-        done = subprocess.run([self.path, *words], input=text, stdout=subprocess.PIPE, stderr=subprocess.PIPE, check=False)
-        end = wanted_end(done.stderr)
-        if end:
-            refused = (b"", b"end %d at %d\n" % end[1:], end[0])
-            return next((name for name in ("print", "json", "records", "messages") if self.call(name, words, text) != refused), None)
-        if self.call("print", words, text) != (done.stdout, done.stderr, done.returncode):
+    def fault(self, words, text, wanted=None):
+        """The first call that isn't as it is wanted, if one is: by default as the program, which has no profile."""
+        if wanted is None:
+            given = [word for word in words if not word.startswith("--profile=")]
+            done = subprocess.run([self.path, *given], input=text, stdout=subprocess.PIPE, stderr=subprocess.PIPE, check=False)
+            wanted = done.stdout, done.stderr, done.returncode
+        end = wanted_end(wanted[1])
+        return self.refusal(words, text, end) if end else self.difference(words, text, *wanted)
+
+    def refusal(self, words, text, end):
+        """The first call that doesn't end with this status, end and place, if one doesn't."""
+        refused = (b"", b"end %d at %d\n" % end[1:], end[0])
+        return next((name for name in CALLS if self.call(name, words, text) != refused), None)
+
+    def difference(self, words, text, wanted_out, wanted_err, wanted_status):
+        """The first call that differs from what is printed, if one does."""
+        if self.call("print", words, text) != (wanted_out, wanted_err, wanted_status):
             return "print"
         out, err, status = self.call("json", words, text)
-        halted = done.returncode == 1
+        halted = wanted_status == 1
         tree = "".join(f"{line}\n" for line in printed(json.loads(out), "<stdin>")).encode()
-        if err or status != done.returncode or not halted and tree != done.stdout:
+        if err or status != wanted_status or not halted and tree != wanted_out:
             return "json"
-        if self.call("records", words, text) != (tree, b"", done.returncode):
+        if self.call("records", words, text) != (tree, b"", wanted_status):
             return "records"
         out, err, status = self.call("messages", words, text)
         shown = messages(json.loads(out), "<stdin>")
-        rest = done.stderr.decode().removeprefix(shown)
-        if err or status != done.returncode or shown + rest != done.stderr.decode():
+        rest = wanted_err.decode().removeprefix(shown)
+        if err or status != wanted_status or shown + rest != wanted_err.decode():
             return "messages"
         if bool(rest) != halted or rest and not rest.startswith("Exiting due to"):
             return "messages"
         return None
+
+    def profile_fault(self, text, tree, err):
+        """What is wrong with a text whose tree and messages under the wider profile are these; under the other one they differ."""
+        if self.call("print", [], text)[:2] == (tree, err):
+            return "print without a profile"
+        return self.fault([], text) or self.fault([WIDER_PROFILE], text, (tree, err, 0))
 
 
 def tables(count):
@@ -140,6 +162,9 @@ def trials():
         for name, words, given, (_, err, status) in Source(table).rows():
             if status != 2 and not err.startswith("rst2pseudoxml: cannot open"):
                 yield name, words, given.encode()
+                if ":`" not in given:
+                    yield f"{name}, under the wider profile", [*words, WIDER_PROFILE], given.encode()
+    yield from ((f"{name}, {words}", words, text.encode()) for name, text in SAME for words in ([], [WIDER_PROFILE]))
     yield from ((f"{count} tables", [], tables(count)) for count in (250, 251))
     choose = random.Random(1)
     for page in sorted((TOP / "docs").rglob("*.md")):
@@ -161,13 +186,16 @@ def main():
         comparison = Comparison(path, str(pathlib.Path(library).resolve()))
         with concurrent.futures.ThreadPoolExecutor(os.cpu_count()) as pool:
             started = [(name, pool.submit(comparison.fault, words, text)) for name, words, text in trials()]
+            started += [(name, pool.submit(comparison.profile_fault, *(part.encode() for part in row))) for name, *row in WIDER]
+            wrong_profile = (101, 1, 0)
+            started += [(f"profile {n}", pool.submit(comparison.refusal, [f"--profile={n}"], b"a\xff", wrong_profile)) for n in (2, 255)]
             for name, one in started:
                 count += 1
                 fault = one.result()
                 if fault:
                     wrong += 1
-                    print(f"{os.path.basename(library)}: {name}: {fault} differs from the program")
-    print(f"the library: {count} texts compared with the program, {wrong} differ")
+                    print(f"{os.path.basename(library)}: {name}: {fault} differs")
+    print(f"the library: {count} texts compared, {wrong} differ")
     return wrong > 0 or count == 0
 
 

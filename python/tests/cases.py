@@ -11,6 +11,7 @@ sys.path[:0] = [str(TOP / "scripts"), str(TOP / "bench")]
 
 import fuzz  # noqa: E402
 from rows import TABLES, Source  # noqa: E402
+from wider import SAME, WIDER  # noqa: E402, F401
 
 FLAGS = {
     "--verbose": ("report", "info"),

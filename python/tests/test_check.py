@@ -16,12 +16,13 @@ from rst2pseudoxml.check.names import MARKS
 
 LISTS = pathlib.Path(check.__file__).parent
 WARNING = "{}:1: (WARNING/2) Inline emphasis start-string without end-string."
-USAGE = "[--level LEVEL] [--known NAMES|@FILE].. [--code] [--format FORMAT] [--jobs N] [--name FILE] [--] FILE|FOLDER|-.."
+USAGE = "[--level LEVEL] [--known NAMES|@FILE].. [--code] [--profile PROFILE] [--format FORMAT] [--jobs N] [--name FILE] [--] FILE|FOLDER|-.."
 PAGES = {
     "good.rst": b"fine\n",
     "a b.rst": b"A *word\n",
     "-x.rst": b"A *word\n",
     "info.rst": b"c. one\n",
+    "role.rst": b":mod:`email`: mail\n",
     "deep.rst": b"text\n\n" + b"- " * 251 + b"a\n",
     "bytes.rst": b"a\xff",
     "tree/b/-x.rst": b"A *word\n",
@@ -96,6 +97,17 @@ class Pages(Checking):
         self.same(0, [], "--level=error", "--", "a b.rst")
         self.same(0, [], "--level", "error", "--format", "json", "--known", "x", "--jobs", "1", "a b.rst")
 
+    def test_profiles(self):
+        unknown = 'role.rst:1: (ERROR/3) Unknown interpreted text role "mod".'
+        wanted = [unknown, "role.rst: passes with --known=role:mod"]
+        self.same(1, wanted, "role.rst")
+        self.same(1, wanted, "--profile", "docutils", "role.rst")
+        self.same(0, [], "--profile=base", "role.rst")
+        for settings, count in ({}, 1), ({"profile": "docutils"}, 1), ({"profile": "base"}, 0):
+            self.assertEqual(len(check.Pages(**settings).read(PAGES["role.rst"]).messages), count)
+        with self.assertRaises(ValueError):
+            check.Pages(profile="wide")
+
     def test_refused_pages(self):
         lines = [
             "deep.rst: rst2pseudoxml: line 3: nesting too deep",
@@ -114,6 +126,7 @@ class Pages(Checking):
             ("no such option: --code=yes", "--code=yes", "good.rst"),
             ("no such level: loud", "--level=loud", "good.rst"),
             ("no such level: good.rst", "--level", "good.rst"),
+            ("no such profile: wide", "--profile=wide", "good.rst"),
             ("nothing comes after --level", "--level"),
             ("no such number of jobs: 0", "--jobs=0", "good.rst"),
             ("no such mark of a name: loud", "--known=spam loud", "good.rst"),

@@ -112,9 +112,9 @@ def settings_of(given):
 
 
 def named(value):
-    """What tables hold, with the tags and ids of elements in their place."""
+    """What tables hold, with the tags and ids of elements in their place. The source text of a message may end in a line feed in Docutils."""
     if isinstance(value, nodes.Element):
-        return value.tagname, value["ids"], value.astext()
+        return value.tagname, value["ids"], re.sub("\n(?=\n\n|\\Z)", "", value.astext())
     if isinstance(value, dict):
         return {name: named(one) for name, one in value.items()}
     return [named(one) for one in value] if isinstance(value, list) else value
@@ -142,7 +142,7 @@ class BesideTheProgram(unittest.TestCase):
             return False
         settings = settings_of(given)
         if status in cases.SHOWN:
-            document = doctree(data, settings)
+            document = doctree(data, settings, profile="base")
             if "\0" not in out:  # a mark of Docutils' own, which it leaves out of texts
                 self.assertEqual(written(document), out)
             # in the order of the tree
@@ -151,7 +151,7 @@ class BesideTheProgram(unittest.TestCase):
             self.assertEqual(document.reporter.max_level, highest)
             return True
         with self.assertRaises((rst2pseudoxml.Refused, docutils.utils.SystemMessage)) as refused:
-            doctree(data, settings)
+            doctree(data, settings, profile="base")
         if isinstance(refused.exception, docutils.utils.SystemMessage):
             shown, _, last = err.rstrip("\n").rpartition("\n")
             self.assertEqual(settings.warning_stream.getvalue().rstrip("\n"), shown.rstrip("\n"))
@@ -221,6 +221,35 @@ class BesideItsOwnParser(unittest.TestCase):
 
     def test_pages(self):
         self.counted((name, words, data) for name, words, data in cases.pages(20) if len(data) < 10_000)
+
+
+class Profiles(unittest.TestCase):
+    """By default what a wider profile has is read as by Docutils' own parser."""
+
+    def test_wider(self):
+        for name, text, tree, _ in cases.WIDER:
+            with self.subTest(name):
+                self.assertEqual(published(text, "pseudoxml"), tree)
+                for parser in Parser(), Parser(profile="docutils"):
+                    self.assertEqual(published(text, "pseudoxml", parser), tree)
+                self.assertEqual(written(doctree(text, settings_of({}))), tree)
+                base = rst2pseudoxml.pseudoxml(text)
+                self.assertNotEqual(base, tree)
+                self.assertEqual(published(text, "pseudoxml", Parser(profile="base")), base)
+                self.assertEqual(written(doctree(text, settings_of({}), profile="base")), base)
+
+    def test_same(self):
+        for name, text in cases.SAME:
+            with self.subTest(name):
+                self.assertEqual(doctree(text, settings_of({})).pformat(), doctree(text, settings_of({}), profile="base").pformat())
+
+    def test_wrong(self):
+        for call in (lambda profile: Parser(profile=profile), lambda profile: doctree("a", profile=profile)):
+            with self.assertRaises(ValueError) as wrong:
+                call("wide")
+            self.assertEqual(str(wrong.exception), 'rst2pseudoxml: bad profile: it has to be "base" or "docutils"')
+            with self.assertRaises(TypeError):
+                call(1)
 
 
 class Documents(unittest.TestCase):

@@ -1,6 +1,7 @@
 #!/usr/bin/env python3
 """Tests the calls of the package beside the program; pytest runs them, and so does python3 by itself."""
 
+import doctest
 import gc
 import json
 import pickle
@@ -77,6 +78,18 @@ class BesideTheProgram(unittest.TestCase):
     def test_pages(self):
         self.all_same(cases.pages(100))
 
+    def test_profiles(self):
+        for name, text, expected, err in cases.WIDER:
+            answer = cases.printed([], text.encode())
+            self.assertNotEqual(answer[0], expected)
+            for settings, wanted in ({}, answer), ({"profile": "base"}, answer), ({"profile": "docutils"}, (expected, err, 0)):
+                with self.subTest(name, **settings):
+                    self.same(settings, text.encode(), *wanted)
+        for name, text in cases.SAME:
+            for profile in "base", "docutils":
+                with self.subTest(name, profile=profile):
+                    self.same({"profile": profile}, text.encode(), *cases.printed([], text.encode()))
+
 
 class Values(unittest.TestCase):
     def test_text_and_bytes(self):
@@ -119,6 +132,11 @@ class Values(unittest.TestCase):
         for name, value in wrong:
             with self.subTest(name), self.assertRaises(ValueError):
                 pseudoxml("a", **{name: value})
+        for profile in "", "wide", "BASE", "1":
+            for call in (pseudoxml, tree, rst2pseudoxml.json, messages):
+                with self.subTest(profile), self.assertRaises(ValueError) as wrong:
+                    call("a", profile=profile)
+                self.assertEqual(str(wrong.exception), 'rst2pseudoxml: bad profile: it has to be "base" or "docutils"')
 
     def test_other_names_and_types(self):
         levels = '"info", "warning", "error", "severe", "none" or 1 to 5'
@@ -130,9 +148,11 @@ class Values(unittest.TestCase):
             ({"no_doc_info": "no"}, "no_doc_info has to be True or False, not of the type str"),
             ({"tab_width": "4"}, "tab_width has to be an int, 1 to 99, not of the type str"),
             ({"line_length_limit": None}, "line_length_limit has to be an int, 1 to 16,777,216, not of the type NoneType"),
+            ({"profile": 1}, 'profile has to be "base" or "docutils", not of the type int'),
             (
                 {"loud": True},
-                "there is no setting 'loud'; the settings are report, halt, exit_status, no_doc_title, no_doc_info, tab_width, line_length_limit",
+                "there is no setting 'loud'; the settings are report, halt, exit_status, no_doc_title, no_doc_info, tab_width, line_length_limit, "
+                "profile",
             ),
         ):
             for call in (pseudoxml, tree, rst2pseudoxml.json, messages):
@@ -188,6 +208,19 @@ class Records(unittest.TestCase):
                 self.assertEqual(list(walk["nodes"](records, 0, len(records))), [json.loads(found)])
             shown_trees += 1
         self.assertGreater(shown_trees, 100)
+
+
+class WiderPage(unittest.TestCase):
+    """What docs/profile/wider.md shows."""
+
+    def test_examples(self):
+        page = (cases.TOP / "docs/profile/wider.md").read_text(encoding="utf-8")
+        examples = "\n".join(re.findall("```pycon\n(.*?)```", page, re.DOTALL))
+        test = doctest.DocTestParser().get_doctest(examples, {}, "wider.md", None, None)
+        self.assertGreater(len(test.examples), 2)
+        said = []
+        doctest.DocTestRunner(verbose=False).run(test, out=said.append)
+        self.assertEqual("".join(said), "")
 
 
 class Calls(unittest.TestCase):

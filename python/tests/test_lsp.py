@@ -232,8 +232,21 @@ class Story(unittest.TestCase):
                     self.assertEqual(sorted(shown), sorted(MESSAGES))
 
     def test_wrong_arguments(self):
-        editor = Editor(self, "--level=loud")
-        self.assertEqual(editor.process.wait(10), 2)
+        for argument in "--level=loud", "--profile=wide":
+            editor = Editor(self, argument)
+            self.assertEqual(editor.process.wait(10), 2)
+
+    def test_profiles(self):
+        text = ":mod:`email`: mail\n"
+        for arguments, shown, path in (
+            ([], [(1, 1, 'Unknown interpreted text role "mod".')], "document > paragraph"),
+            (["--profile=docutils"], [(1, 1, 'Unknown interpreted text role "mod".')], "document > paragraph"),
+            (["--profile=base"], [], "document > docinfo > field"),
+        ):
+            with self.subTest(arguments):
+                self.assertEqual(self.open(text, *arguments), shown)
+                found = self.editor.result("textDocument/hover", textDocument=self.document, position={"line": 0, "character": 0})
+                self.assertTrue(found["contents"]["value"].startswith(path), found)
 
     def test_text_in_directives(self):
         self.open_nested()

@@ -53,9 +53,15 @@ class Command(Folder):
 
     def test_bad_arguments_are_one_line(self):
         more = "--known=@none a", "--known=a,@none a", "a --known"
-        for bad in *more, "", "a b", "--nope a", "-r loud a", "--tab-width=0 a", "--tab-width=x a", "--watch -", "--watch a -o b", "--wat a":
+        for bad in *more, "", "a b", "--nope a", "-r loud a", "--profile=wide a", "--tab-width=0 a", "--tab-width=x a", "--watch -", "--watch a -o b", "--wat a":
             status, out, err = run(*bad.split())
             self.assertEqual((status, out, err[:10], err.count("\n")), (2, "", "rst-view: ", 1), bad)
+
+    def test_profiles(self):
+        for arguments, tag, count in ([], "paragraph", 1), (["--profile=docutils"], "paragraph", 1), (["--profile", "base"], "docinfo", 0):
+            page = run("-", *arguments, given=b":mod:`email`: mail\n")[1]
+            data = json.loads(re.findall('id="data">(.*?)</script>', page, re.DOTALL)[0])
+            self.assertEqual((data["tree"][3][0], len(data["messages"])), (tag, count), arguments)
 
     def test_nothing_comes_from_elsewhere(self):
         self.assertEqual(re.findall(r"\bsrc=|\bhref=|@import|url\(|https?:|<link|\.innerHTML|\beval\b|style=", view.TEMPLATE), [])

@@ -7,7 +7,7 @@ pseudoxml("text", report="info", halt=5, no_doc_title=True, tab_width=4, line_le
 pseudoxml(b"text")
 json(bytearray(b"text"))
 tree(memoryview(b"text"), report=1)
-settings: Settings = {"report": "info", "no_doc_info": True}
+settings: Settings = {"report": "info", "no_doc_info": True, "profile": "docutils"}
 found: list[Message] = messages("text", **settings)
 inside: tuple[Node | str, ...] = tree("text").children
 
@@ -19,6 +19,7 @@ pseudoxml("text", line_length_limit=1.5)  # a whole number
 pseudoxml("text", no_doc_title="no")  # True or False
 pseudoxml("text", report=["info"])  # a level
 messages("text", source=1)  # a str
+tree("text", profile=1)  # a str
 pseudoxml(1)  # a text
 pseudoxml(None)  # a text
 assert_tree("text", "tree", tabs=4)  # no such setting

@@ -4,6 +4,8 @@ use Rattle.std.specs.Prelude.{◌≡◌, ℕ, ◌==◌, Bool, true, false, not, 
 use Rattle.std.specs.declared.string.String.{String}
 use Rattle.std.specs.Option.{option_map_or}
 use Rattle.clap.specs.Words.{Kinds, Row, Text, first_of}
+use Rattle.rst_settings.specs.Parts.{no_parts}
+use Rattle.rst_settings.specs.declared.Parts.{Parts}
 use Rattle.rst_settings.specs.declared.Settings.{Settings}
 use Rattle.rst_settings.specs.declared.Threshold.{Threshold}
 use Rattle.rst_settings.specs.declared.Threshold.TheVariants.{Info, Warning, Severe, Never}
@@ -13,7 +15,7 @@ use Rattle.rst2pseudoxml_options.specs.Command.{faults_at, rows_at, is_given, is
 use Rattle.rst2pseudoxml_options.specs.Values.{threshold_or, tab_or, limit_or}
 
 -- what settings consist of: from which levels on messages are printed, halt and set the exit status, whether a lone title and a leading
--- field list are transformed, the tab width, and the most characters of a line
+-- field list are transformed, the tab width, the most characters of a line, and the parts of the markup that are asked for
 pub record Choice : Type 0 where
   pub report : Threshold
   pub halt : Threshold
@@ -22,6 +24,7 @@ pub record Choice : Type 0 where
   pub info : Bool
   pub tab : ℕ
   pub limit : ℕ
+  pub parts : Parts
 
 -- the values of these settings
 abbrev pub choice_by : Settings → Choice
@@ -33,11 +36,12 @@ choice_by settings = record {
   info = settings.info;
   tab = settings.tab;
   limit = settings.limit;
+  parts = settings.parts;
 }
 
 -- the settings where no option changes them
 abbrev pub usual : Choice
-usual = record { report = Warning; halt = Severe; exit = Never; title = true; info = true; tab = 8; limit = 10000 }
+usual = record { report = Warning; halt = Severe; exit = Never; title = true; info = true; tab = 8; limit = 10000; parts = no_parts }
 
 -- ---- options that a level comes from
 
@@ -88,6 +92,7 @@ choice_of rows = first_fault
       info = not (is_on (codes "no-doc-info") rows);
       tab = tab;
       limit = limit;
+      parts = no_parts;
     })
 
 -- The settings are those that the values choose, or the fault is their first.

@@ -49,6 +49,7 @@ pub fn choice_of(matches: &ArgMatches<'_>) -> Result<Settings, OptionFault>
         info: !is_on(matches, "no-doc-info"),
         tab,
         limit,
+        parts: usual.parts,
     })
 }
 

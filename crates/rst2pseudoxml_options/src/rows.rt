@@ -2,6 +2,7 @@
 #![tactic(auto, unfolding(crate::proofs::Computing::rst2pseudoxml_options))]
 
 ghost use Rattle.std.specs.Prelude.{◌≡◌, [], ◌∷◌, Some, None, codes, true, false, map};
+ghost use Rattle.rst_settings.specs.Parts.{no_parts};
 ghost use Rattle.rst_settings.specs.declared.Threshold.TheVariants.{Info, Warning, Error, Severe, Never};
 ghost use Rattle.rst2pseudoxml_options.specs.Options.{usual};
 ghost use Rattle.rst2pseudoxml_options.specs.Values.{threshold_of};
@@ -10,7 +11,7 @@ ghost use Rattle.rst2pseudoxml_options.specs.declared.fault.OptionFault.TheVaria
 
 /// Each option, and the settings that it leaves as they are (The command line, 'Options').
 pub fn settings()
-    ensures none { Sets [] (record { report = Warning; halt = Severe; exit = Never; title = true; info = true; tab = 8; limit = 10000 }) }
+    ensures none { Sets [] (record { report = Warning; halt = Severe; exit = Never; title = true; info = true; tab = 8; limit = 10000; parts = no_parts }) }
     ensures report { Sets ("--report=3" ∷ []) (record usual { report = Error }) }
     ensures verbose { Sets ("--verbose" ∷ []) (record usual { report = Info }) }
     ensures quiet { Sets ("--quiet" ∷ []) (record usual { report = Never }) }
@@ -23,7 +24,7 @@ pub fn settings()
     ensures line_length_limit { Sets ("--line-length-limit=200" ∷ []) (record usual { limit = 200 }) }
     ensures verbose_with_strict { Sets ("--strict" ∷ "-v" ∷ []) (record usual { report = Info; halt = Info }) }
     ensures all { Sets ("--no-doc-info" ∷ "--tab-width" ∷ "2" ∷ "-q" ∷ "--halt" ∷ "none" ∷ "--line-length-limit=90" ∷ "--exit-status=info" ∷ "--no-doc-title" ∷ [])
-        (record { report = Never; halt = Never; exit = Info; title = false; info = false; tab = 2; limit = 90 }) }
+        (record { report = Never; halt = Never; exit = Info; title = false; info = false; tab = 2; limit = 90; parts = no_parts }) }
 {}
 
 /// The forms of an option, and of its value (The command line, 'Options').

@@ -3,11 +3,10 @@ use Rattle.std.proofs.Common.{◌≡◌, ℕ, Bool, true, false, List, length, r
 use Rattle.std.specs.Prelude.{if◌then◌else◌, nat_lt, Option, Some, None, Result, Ok, Err}
 use Rattle.rst_settings.specs.Profile.{Profile}
 use Rattle.rst_settings.specs.declared.Settings.{Settings}
-use Rattle.rst_text.specs.Lines.{lines_of}
 use Rattle.rst_text.specs.Text.{text_of}
 use Rattle.rst_tree.specs.declared.node.Node.{Node}
 use Rattle.rst2pseudoxml_run.specs.declared.end.End.TheVariants.{TooLong}
-use Rattle.rst2pseudoxml_run.specs.Reading.{read_of}
+use Rattle.rst2pseudoxml_run.specs.Reading.{lines_under, read_of}
 use Rattle.rst2pseudoxml_run.specs.RunResult.{is_judged, result_of_read, result_of_text, IsJudged}
 
 module _ (profile : Profile) (settings : Settings) (source bytes : List ℕ) where
@@ -17,7 +16,7 @@ module _ (profile : Profile) (settings : Settings) (source bytes : List ℕ) whe
 
   by_text : (text : Option (List ℕ)) → is_judged (result_of_text profile settings source bytes text) ≡ true
   by_text None = refl
-  by_text (Some text) = by_read (read_of profile (lines_of settings.tab text))
+  by_text (Some text) = by_read (read_of profile (lines_under settings text))
 
   by_length : (long : Bool) → is_judged (if long then Err TooLong else result_of_text profile settings source bytes (text_of bytes)) ≡ true
   by_length true = refl

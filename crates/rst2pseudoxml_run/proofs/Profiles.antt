@@ -6,14 +6,14 @@ use Rattle.rst_block_state.specs.Documents.{document}
 use Rattle.rst_settings.specs.Profile.{profile_of}
 use Rattle.rst_settings.specs.declared.Settings.{Settings}
 use Rattle.rst_text.specs.Block.{Block}
-use Rattle.rst_text.specs.Lines.{first_longer, lines_of}
+use Rattle.rst_text.specs.Lines.{first_longer}
 use Rattle.rst_text.specs.Text.{text_of}
 use Rattle.rst_tree.specs.declared.node.Node.{Node}
 use Rattle.rst_transform.specs.Finishing.{leaves}
 use Rattle.rst2pseudoxml_run.specs.CodeCalls.{IsWithoutCode}
 use Rattle.rst2pseudoxml_run.specs.declared.end.End.TheVariants.{TooDeep}
 use Rattle.rst2pseudoxml_run.specs.Profiles.{first_profile, leading_field_list, titled_of, CallsNoCode, HasNoList, ProfilesAgree}
-use Rattle.rst2pseudoxml_run.specs.Reading.{read_by, read_of}
+use Rattle.rst2pseudoxml_run.specs.Reading.{lines_under, read_by, read_of}
 use Rattle.rst2pseudoxml_run.specs.RunResult.{parts_of, result_of_read, result_of_text}
 use Rattle.rst2pseudoxml_run.proofs.ProfilesCalls.{calls_agree}
 use Rattle.rst2pseudoxml_run.proofs.ProfilesCuts.{cells_keep, opened_keep}
@@ -63,7 +63,7 @@ module _ (settings : Settings) where
     text_alike : (text : Option (List ℕ)) → CallsNoCode settings text → ((line : ℕ) → result_of_text first_profile settings source bytes text ≡ Err (TooDeep line) → ⊥)
         → (settings.info ≡ false) ⊎ HasNoList first_profile settings text → result_of_text first_profile settings source bytes text ≡ result_of_text (profile_of settings) settings source bytes text
     text_alike None free nests apart = refl
-    text_alike (Some text) free nests apart = lines_alike (lines_of settings.tab text) free
+    text_alike (Some text) free nests apart = lines_alike (lines_under settings text) free
         (λ line is. nests line (ap (result_of_read first_profile settings source) is))
         (λ read is. elim apart [ inl off ↦ inl off | inr none ↦ inr (none read is) ])
 

@@ -4,14 +4,13 @@ use Rattle.std.proofs.lemmas.Bool.{cases_lt, cond-true, cond-false, le-ltb, lt-l
 use Rattle.rst_settings.specs.Profile.{Profile}
 use Rattle.rst_settings.specs.declared.Settings.{Settings}
 use Rattle.rst_text.specs.Counted.{HandsOut, IsReadOut, Stream, Untouched}
-use Rattle.rst_text.specs.Lines.{lines_of}
 use Rattle.rst_text.specs.Text.{text_of}
 use Rattle.rst_tree.specs.declared.node.Node.{Node}
 use Rattle.rst_transform.specs.declared.finishing.Finished.{Finished}
 use Rattle.rst2pseudoxml_run.specs.declared.end.End.{End}
 use Rattle.rst2pseudoxml_run.specs.declared.end.End.TheVariants.{Done, Read, TooLong, NotUtf8, NoMemory, WriteErr, WriteOut, TooDeep}
 use Rattle.rst2pseudoxml_run.specs.Headline.{Headline, Ends, IsUnread, Shows, TakesInput}
-use Rattle.rst2pseudoxml_run.specs.Reading.{read_of, IsMade, IsReadOf, Reads, Refuses}
+use Rattle.rst2pseudoxml_run.specs.Reading.{lines_under, read_of, IsMade, IsReadOf, Reads, Refuses}
 use Rattle.rst2pseudoxml_run.specs.RunResult.{parts_of, result_of, result_of_read, result_of_text, Parts}
 
 module _ (profile : Profile) (settings : Settings) (source bytes : List ℕ) where
@@ -30,7 +29,7 @@ module _ (profile : Profile) (settings : Settings) (source bytes : List ℕ) whe
 
   not_long_text : (text : Option (List ℕ)) → result_of_text profile settings source bytes text ≡ Err TooLong → ⊥
   not_long_text None is = absurd (cc)
-  not_long_text (Some text) is = not_long_read (read_of profile (lines_of settings.tab text)) is
+  not_long_text (Some text) is = not_long_read (read_of profile (lines_under settings text)) is
 
   pub too_long : Given ≡ Err TooLong → 16777216 < length bytes
   too_long is = ⊎_elim (λ long. long) (λ short. absurd (not_long_text (text_of bytes) (sym (short_result short) ∙ is))) (cases_lt 16777216 (length bytes))

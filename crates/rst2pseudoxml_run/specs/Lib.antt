@@ -6,3 +6,4 @@ pub mod Report
 pub mod OneEnd
 pub mod CodeCalls
 pub mod Profiles
+pub mod Parts

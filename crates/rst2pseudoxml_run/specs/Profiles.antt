@@ -3,7 +3,6 @@
 use Rattle.std.specs.Prelude.{◌≡◌, ◌⊎◌, ℕ, false, List, Option, None, Some, Ok, Err}
 use Rattle.rst_settings.specs.Profile.{Profile, profile_of}
 use Rattle.rst_settings.specs.declared.Settings.{Settings}
-use Rattle.rst_text.specs.Lines.{lines_of}
 use Rattle.rst_text.specs.Text.{text_of}
 use Rattle.rst_tree.specs.Nodes.{nodes_of}
 use Rattle.rst_tree.specs.declared.node.Node.{Node}
@@ -14,7 +13,7 @@ use Rattle.rst_transform_work.specs.States.{document_in}
 use Rattle.rst_transform.specs.Finishing.{known_at_first, titled_first}
 use Rattle.rst2pseudoxml_run.specs.CodeCalls.{IsWithoutCode}
 use Rattle.rst2pseudoxml_run.specs.declared.end.End.TheVariants.{TooDeep}
-use Rattle.rst2pseudoxml_run.specs.Reading.{IsReadOf}
+use Rattle.rst2pseudoxml_run.specs.Reading.{lines_under, IsReadOf}
 use Rattle.rst2pseudoxml_run.specs.RunResult.{result_of}
 
 -- the profile that the program ran under at first
@@ -31,7 +30,7 @@ IsFirstProfile =
 -- no line of a text calls program code
 abbrev pub CallsNoCode : Settings → Option (List ℕ) → Type 0
 CallsNoCode settings None = Unit {0}
-CallsNoCode settings (Some text) = IsWithoutCode (lines_of settings.tab text)
+CallsNoCode settings (Some text) = IsWithoutCode (lines_under settings text)
 
 -- what a parsed document, whose messages were given `messages` numbers, has become after the transform of its title
 abbrev pub titled_of : ℕ → Settings → Node → Document

@@ -8,6 +8,7 @@ use Rattle.rst_settings.specs.Profile.{Profile}
 use Rattle.rst_settings.specs.declared.Settings.{Settings}
 use Rattle.rst_text.specs.Block.{Block}
 use Rattle.rst_text.specs.Lines.{first_longer, lines_of}
+use Rattle.rst_text.specs.Marks.{parts_in}
 use Rattle.rst_text.specs.Text.{text_of}
 use Rattle.rst_transform.specs.Finishing.{leaves}
 use Rattle.rst_transform_messages.specs.Messages.{highest_level}
@@ -43,10 +44,14 @@ read_by (Some line) profile lines = Ok (long_document line, 0)
 abbrev pub read_of : Profile → Block → Result (Node × ℕ) ℕ
 read_of profile lines = read_by (first_longer profile.line_limit lines) profile lines
 
+-- the lines of a text, in which those parts of the markup hold that are asked for and whose mark the text holds
+abbrev pub lines_under : Settings → List ℕ → Block
+lines_under settings text = lines_of (parts_in settings.parts text) settings.tab text
+
 -- what is read of a text, if there is one
 abbrev pub IsReadOf : Profile → Settings → Option (List ℕ) → Result (Node × ℕ) ℕ → Type 0
 IsReadOf profile settings None read = ⊥
-IsReadOf profile settings (Some text) read = read_of profile (lines_of settings.tab text) ≡ read
+IsReadOf profile settings (Some text) read = read_of profile (lines_under settings text) ≡ read
 
 -- the bytes are refused on this ground, or memory ran out
 abbrev pub Refuses : Profile → Settings → List ℕ → End → Type 0

@@ -4,7 +4,6 @@ use Rattle.std.specs.Fmt.{decimal}
 use Rattle.std.specs.List.{flat_map}
 use Rattle.std.specs.Str.Lossy.{utf8_valid_len}
 use Rattle.rst_text.specs.Counted.{inner_of}
-use Rattle.rst_text.specs.Lines.{lines_of}
 use Rattle.rst_text.specs.Text.{text_of}
 use Rattle.rst_text.specs.declared.counted.Counted.{Counted}
 use Rattle.rst_settings.specs.Profile.{Profile}
@@ -21,7 +20,7 @@ use Rattle.rst_tree.specs.declared.note.Level.{Level}
 use Rattle.rst_tree.specs.declared.note.Note.{Note}
 use Rattle.rst2pseudoxml_run.specs.declared.end.End.{End}
 use Rattle.rst2pseudoxml_run.specs.declared.end.End.TheVariants.{TooLong, NotUtf8, TooDeep, NoMemory}
-use Rattle.rst2pseudoxml_run.specs.Reading.{read_of}
+use Rattle.rst2pseudoxml_run.specs.Reading.{lines_under, read_of}
 
 -- standard output, standard error and the exit status
 pub record Parts : Type 0 where
@@ -82,7 +81,7 @@ result_of_read profile settings source (Err line) = Err (TooDeep line)
 -- the same of some bytes and their text, if they are UTF-8
 abbrev pub result_of_text : Profile → Settings → List ℕ → List ℕ → Option (List ℕ) → Result Parts End
 result_of_text profile settings source bytes None = Err (NotUtf8 (utf8_valid_len bytes))
-result_of_text profile settings source bytes (Some text) = result_of_read profile settings source (read_of profile (lines_of settings.tab text))
+result_of_text profile settings source bytes (Some text) = result_of_read profile settings source (read_of profile (lines_under settings text))
 
 -- The result of some bytes: what is printed for them, or the refusal of what is too long, no UTF-8 or nested too deeply.
 abbrev pub result_of : Profile → Settings → List ℕ → List ℕ → Result Parts End

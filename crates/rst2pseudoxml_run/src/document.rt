@@ -8,7 +8,7 @@ use itoa::Buffer;
 use rst_block::{BlockFault, Parsed, parse};
 use rst_block_nodes::message;
 use rst_settings::Settings;
-use rst_text::{LineFault, Lines, TextFault, text_in};
+use rst_text::{LineFault, Lines, TextFault, parts_in, text_in};
 use rst_transform::{Finished, finish};
 use rst_tree::{Attrs, Children, Level, Node, Tag};
 use std::alloc::{AllocError, Global};
@@ -35,7 +35,8 @@ fn parsed_of(alloc: Global, settings: &Settings, bytes: Vec<u8>) -> Result<Parse
         Err(TextFault::NotUtf8 { at }) => return Err(End::NotUtf8 { at }),
         Err(TextFault::NoMemory) => return Err(End::NoMemory),
     };
-    let lines = match Lines::within(alloc, text, settings.tab, settings.limit) {
+    let parts = parts_in(settings.parts, text);
+    let lines = match Lines::within(alloc, text, settings.tab, settings.limit, parts) {
         Ok(lines) => lines,
         Err(LineFault::TooLong { line }) => {
             return match long_line(alloc, line) {

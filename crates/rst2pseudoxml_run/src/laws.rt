@@ -14,6 +14,7 @@ ghost use Rattle.rst_transform.specs.Finishing.{leaves, Finishes};
 ghost use Rattle.rst_transform.specs.declared.finishing.Finished.{Finished};
 ghost use Rattle.rst_block_state.specs.Documents.{document};
 ghost use Rattle.rst2pseudoxml_run.specs.OneEnd.{HasOneEnd};
+ghost use Rattle.rst2pseudoxml_run.specs.Parts.{PartsNeedMarks, MarksNeedRoles};
 ghost use Rattle.rst2pseudoxml_run.specs.Profiles.{IsFirstProfile, ProfilesAgree};
 ghost use Rattle.rst2pseudoxml_run.specs.RunResult.{IsJudged};
 ghost use Rattle.rst2pseudoxml_run.specs.Reading.{IsLeftOf, read_of};
@@ -40,6 +41,13 @@ pub fn first_profile()
 /// the document.
 pub fn profiles_agree()
     ensures { ProfilesAgree }
+{}
+
+/// It makes no difference that a part of the markup is asked for where the text doesn't hold its mark. Without any mark, the result is that of
+/// a run that asks for no part. Without a colon directly before a backquote, it is that of a run that doesn't ask for `marks`.
+pub fn parts_need_their_marks()
+    ensures parts { PartsNeedMarks }
+    ensures marks { MarksNeedRoles }
 {}
 
 /// Where blocks nest at most 250 deep, a finished document has at most 1,333 levels, for all settings.

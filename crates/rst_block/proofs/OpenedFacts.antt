@@ -5,7 +5,7 @@ use Rattle.std.specs.Option.{option_map_or}
 use Rattle.std.proofs.lemmas.Bool.{cases_Bool as cases_bool, cases_lt}
 use Rattle.std.proofs.lemmas.List.{drop-drop}
 use Rattle.rst_text.proofs.Choices.{chosen}
-use Rattle.rst_text.specs.Block.{Block, first_text, is_blank}
+use Rattle.rst_text.specs.Block.{Block, first_parts, first_text, is_blank}
 use Rattle.rst_text.specs.Characters.{columns}
 use Rattle.rst_text.specs.Extent.{extent}
 use Rattle.rst_tree.specs.declared.node.Node.{Node}
@@ -195,16 +195,16 @@ construct_opens c B i EnumeratorKind h inside e row = by (item_enumerator (first
         let mark = item_mark (first_text X) (next_text X) k m in
         one_within (row_size EnumeratorKind c.titles X) (lines_in B (item_part i k.marker X)) (omega (arith, item_le B X i k.marker, enumerator_is X k mark))
         (item_fronted B i k.marker h (of_some (λ e. Tells (first_text X) e.marker) (enumerator_of (first_text X)) k mark (enumerator_tells (first_text X))))
-construct_opens c B i Field h inside e row = by (field_of (first_text X)) refl
+construct_opens c B i Field h inside e row = by (field_of (first_parts X) (first_text X)) refl
   where
     X : Block
     X = drop i B
 
-    by : (o : Option FieldMark) → field_of (first_text X) ≡ o → HaveAtMostLines (hanging_size X) (opened_by (option_map_or (λ m. item_of_list (field_item m)) o (plain_text c.titles X)) c B i X)
-    by None m = absurd (no_mark (field_of (first_text X)) m row)
+    by : (o : Option FieldMark) → field_of (first_parts X) (first_text X) ≡ o → HaveAtMostLines (hanging_size X) (opened_by (option_map_or (λ m. item_of_list (field_item m)) o (plain_text c.titles X)) c B i X)
+    by None m = absurd (no_mark (field_of (first_parts X) (first_text X)) m row)
     by (Some k) m =
         one_within (hanging_size X) (lines_in B (hanging i k.marker X)) (hanging_le B X i k.marker.cut k.marker.bare)
-        (hanging_fronted B i k.marker.cut k.marker.bare h (of_some (λ f. Tells (first_text X) f.marker) (field_of (first_text X)) k m (field_tells (first_text X))))
+        (hanging_fronted B i k.marker.cut k.marker.bare h (of_some (λ f. Tells (first_text X) f.marker) (field_of (first_parts X) (first_text X)) k m (field_tells (first_parts X) (first_text X))))
 construct_opens c B i OptionItem h inside e row = by (item_option (first_text X) (next_text X) (after_text X)) refl
   where
     X : Block

@@ -3,7 +3,7 @@ use Rattle.std.proofs.Common.{◌≡◌, ℕ, ◌+◌, ◌-◌, ◌<◌, ◌≤�
 use Rattle.std.specs.Prelude.{if◌then◌else◌, box_value}
 use Rattle.std.specs.declared.string.String.{String}
 use Rattle.std.proofs.lemmas.Str.{chars-append, chars_from_encodes, encode_ascii}
-use Rattle.rst_text.specs.Block.{Block, first_text, first_number, cut, shorten_all}
+use Rattle.rst_text.specs.Block.{Block, first_text, first_number, first_parts, cut, shorten_all}
 use Rattle.rst_text.specs.Text.{chars_of}
 use Rattle.rst_markup_lines.specs.declared.marker.Marker.{Marker}
 use Rattle.rst_markup_blocks.specs.Partition.{Span}
@@ -54,11 +54,11 @@ over_none text first [] none e = ap chars e
 over_none text first (l ∷ ls) none e = absurd (omega (arith, none))
 
 -- the rest of a bar's line
-first_cut : (f : ℕ) (X : Block) → 1 ≤ length X → shorten_all f 0 (take 1 X) ≡ (record { number = first_number X; text = drop f (first_text X) }) ∷ []
+first_cut : (f : ℕ) (X : Block) → 1 ≤ length X → shorten_all f 0 (take 1 X) ≡ (record { number = first_number X; text = drop f (first_text X); parts = first_parts X }) ∷ []
 first_cut f [] some = absurd (omega (arith, some))
 first_cut f (l ∷ ls) some = refl
 
-line_cut : (B : Block) (at f : ℕ) → at < length B → cut B at (at + 1) f 0 ≡ (record { number = first_number (drop at B); text = drop f (first_text (drop at B)) }) ∷ []
+line_cut : (B : Block) (at f : ℕ) → at < length B → cut B at (at + 1) f 0 ≡ (record { number = first_number (drop at B); text = drop f (first_text (drop at B)); parts = first_parts (drop at B) }) ∷ []
 line_cut B at f h =
     let one : at + 1 - at ≡ 1 = omega arith in
     ap (λ n. shorten_all f 0 (take n (drop at B))) one ∙ first_cut f (drop at B) (omega (arith, length-drop at B, h))

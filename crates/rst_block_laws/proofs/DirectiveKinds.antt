@@ -5,7 +5,7 @@ use Rattle.std.specs.List.{AllByRecursion}
 use Rattle.std.specs.Option.{IfSome, option_or}
 use Rattle.std.specs.Result.{result_map_both}
 use Rattle.std.proofs.lemmas.Bool.{cond_both}
-use Rattle.rst_text.specs.Block.{Block, Line}
+use Rattle.rst_text.specs.Block.{Block, Line, first_parts}
 use Rattle.rst_text.specs.Characters.{is_among}
 use Rattle.rst_text.specs.Names.{normalized_white}
 use Rattle.rst_markup_blocks.specs.declared.forms.Invocation.{Invocation}
@@ -77,8 +77,8 @@ module _ (P : ℕ → Bool) (T : List ℕ → Type 0) (s : Suited P T) where
       let run : List Text = run_in kind late H in let lines : List Text = drop (layout_of kind run H).options run in
       let kept : AllByRecursion (Kept P) run = cond_both (late && is_lines kind.content) [] (first_run H) (AllByRecursion (Kept P)) (λ e. tt) (λ e. all_map _ (Kept P) (λ (l : Line). l.text) (λ l h. h) _ (all_take _ _ H h)) in
       parts_have kind _ _ _ any (argument_has kind.argument _ _)
-      (elim (fields_in lines) as (λ o. IfSome o (AllByRecursion (FieldKept P T s)) → Judged P T s (AllByRecursion (ChoiceHas P T s)) (and_then (settings_in kind.options) (ok_or o option_block))) [ None ↦ λ k. fixed_has P T s _ refl | Some fs ↦ settings_have P T s kind.options fs ]
-      (fields_kept P T s _ (groups_kept P T s lines (all_drop _ _ run kept))))
+      (elim (fields_in (first_parts H) lines) as (λ o. IfSome o (AllByRecursion (FieldKept P T s)) → Judged P T s (AllByRecursion (ChoiceHas P T s)) (and_then (settings_in kind.options) (ok_or o option_block))) [ None ↦ λ k. fixed_has P T s _ refl | Some fs ↦ settings_have P T s kind.options fs ]
+      (fields_kept P T s (first_parts H) _ (groups_kept P T s lines (all_drop _ _ run kept))))
 
   -- ---- its name, its place and its content
 

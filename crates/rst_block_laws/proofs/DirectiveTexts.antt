@@ -4,6 +4,7 @@ use Rattle.std.specs.Prelude.{◌==◌, MatchResult, codes, find, option_and_the
 use Rattle.std.specs.List.{AllByRecursion, list_all}
 use Rattle.std.specs.Option.{IfSome, option_or}
 use Rattle.std.proofs.lemmas.Bool.{cond_both}
+use Rattle.rst_settings.specs.declared.Parts.{Parts}
 use Rattle.rst_text.specs.Block.{indentation, is_blank}
 use Rattle.rst_text.specs.Characters.{Text, without_white}
 use Rattle.rst_text.specs.Escapes.{unescaped}
@@ -74,11 +75,11 @@ module _ (P : ℕ → Bool) (T : List ℕ → Type 0) (s : Suited P T) where
   onto_kept f (Some a) None h k = tt
   onto_kept f (Some a) (Some fs) h k = (h a, k)
 
-  pub fields_kept : (gs : List Group) → AllByRecursion GroupKept gs → IfSome (fields_of gs) (AllByRecursion FieldKept)
+  pub fields_kept : (parts : Parts) (gs : List Group) → AllByRecursion GroupKept gs → IfSome (fields_of parts gs) (AllByRecursion FieldKept)
   unfolding option_field
-  fields_kept [] h = tt
-  fields_kept (g ∷ gs) h =
-      onto_kept _ (field_of g.0) (fields_of gs) (λ mark. (all_range _ g.0 _ _ h.0.0, nonempty_kept _ (all_drop _ mark.marker.cut g.0 h.0.0, all_map (Kept P) (Kept P) _ (λ u. all_drop _ (least_indentation g.1) u) g.1 h.0.1))) (fields_kept gs h.1)
+  fields_kept parts [] h = tt
+  fields_kept parts (g ∷ gs) h =
+      onto_kept _ (field_of parts g.0) (fields_of parts gs) (λ mark. (all_range _ g.0 _ _ h.0.0, nonempty_kept _ (all_drop _ mark.marker.cut g.0 h.0.0, all_map (Kept P) (Kept P) _ (λ u. all_drop _ (least_indentation g.1) u) g.1 h.0.1))) (fields_kept parts gs h.1)
 
   -- ---- options
 

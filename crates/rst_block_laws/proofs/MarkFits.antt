@@ -3,7 +3,7 @@ use Rattle.std.proofs.Common.{◌≡◌, ℕ, Bool, true, List, [], ◌∷◌, d
 use Rattle.std.specs.Prelude.{unwrap_or}
 use Rattle.std.specs.Option.{option_map_or}
 use Rattle.std.proofs.lemmas.Bool.{and_parts, cond_both}
-use Rattle.rst_text.specs.Block.{Block, first_number, first_text}
+use Rattle.rst_text.specs.Block.{Block, first_number, first_parts, first_text}
 use Rattle.rst_tree.specs.declared.node.Node.{Node}
 use Rattle.rst_tree.specs.declared.note.Level.TheVariants.{Info}
 use Rattle.rst_markup_blocks.specs.Conditions.{next_text, after_text, item_enumerator, item_option}
@@ -70,7 +70,7 @@ module _ (P : ℕ → Bool) (T : List ℕ → Type 0) (s : Suited P T) (titles :
   kind_fits : (kind : Kind) → ConstructFits T (construct_by kind titles X) X
   kind_fits Bullet = or_fits (bullet_with titles X) (first (first_text X)) (λ ch. or_fits (λ m. item_of_list (bullet_item ch m)) (bullet (first_text X)) (λ m. tt))
   kind_fits EnumeratorKind = or_fits (λ e. item_of_list (enumerated_item e)) (item_enumerator (first_text X) (next_text X)) (λ e. tt)
-  kind_fits Field = or_fits (λ m. item_of_list (field_item m)) (field_of (first_text X)) (λ m. tt)
+  kind_fits Field = or_fits (λ m. item_of_list (field_item m)) (field_of (first_parts X) (first_text X)) (λ m. tt)
   kind_fits OptionItem = or_fits (λ m. item_of_list (option_item m)) (item_option (first_text X) (next_text X) (after_text X)) (λ m. tt)
   kind_fits Line = or_fits bar_line (line_bar (first_text X)) (λ m. tt)
   kind_fits AdornmentKind =

@@ -3,7 +3,8 @@ use Rattle.std.proofs.Common.{◌≡◌, ℕ, ◌+◌, ◌-◌, ◌≤◌, ◌==
 use Rattle.std.proofs.lemmas.List.{drop-drop, length-map}
 use Rattle.std.proofs.lemmas.List.Sums.{prefix_len-le-length}
 use Rattle.rst_markup_directives.proofs.DirectiveParts.{run_in-le}
-use Rattle.rst_text.specs.Block.{Block, cut}
+use Rattle.rst_settings.specs.declared.Parts.{Parts}
+use Rattle.rst_text.specs.Block.{Block, cut, first_parts}
 use Rattle.rst_text.proofs.CutLaws.{take-cut, drop-cut}
 use Rattle.rst_markup_blocks.proofs.RowLaws.{while_le}
 use Rattle.rst_markup_blocks.specs.declared.forms.Invocation.{Invocation}
@@ -60,20 +61,20 @@ rest_laid first run H h f r =
       fronted = subst IsFronted place (blanks_fronted Y (trimmed_drop (length run) H h));
     }
 
-without_laid : (run : List Text) (H : Block) → is_trimmed H ≡ true → length run ≤ length H
-    → let layout = parts_without_argument run (length H) (after_blank H (length run)) in IsLaid layout.first layout.second H
-without_laid run H h r =
-    chosen (λ layout. IsLaid layout.first layout.second H) (before_field run == length run) (content_alone run (length H)) _ (alone_laid H h) (rest_laid (before_field run) run H h (prefix_len-le-length (λ (t : Text). not (begins_field t)) run) r)
+without_laid : (parts : Parts) (run : List Text) (H : Block) → is_trimmed H ≡ true → length run ≤ length H
+    → let layout = parts_without_argument parts run (length H) (after_blank H (length run)) in IsLaid layout.first layout.second H
+without_laid parts run H h r =
+    chosen (λ layout. IsLaid layout.first layout.second H) (before_field parts run == length run) (content_alone run (length H)) _ (alone_laid H h) (rest_laid (before_field parts run) run H h (prefix_len-le-length (λ (t : Text). not (begins_field parts t)) run) r)
 
-parts_laid : (content : ContentKind) (argument : ArgumentKind) (run : List Text) (H : Block) → is_trimmed H ≡ true → length run ≤ length H
-    → let layout = layout_by content argument run (length H) (after_blank H (length run)) in IsLaid layout.first layout.second H
-parts_laid Paragraph argument run H h r = alone_laid H h
-parts_laid _ Absent run H h r = without_laid run H h r
-parts_laid _ _ run H h r = rest_laid 0 run H h (omega arith) r
+parts_laid : (parts : Parts) (content : ContentKind) (argument : ArgumentKind) (run : List Text) (H : Block) → is_trimmed H ≡ true → length run ≤ length H
+    → let layout = layout_by parts content argument run (length H) (after_blank H (length run)) in IsLaid layout.first layout.second H
+parts_laid parts Paragraph argument run H h r = alone_laid H h
+parts_laid parts _ Absent run H h r = without_laid parts run H h r
+parts_laid parts _ _ run H h r = rest_laid 0 run H h (omega arith) r
 
 layout_laid : (kind : Kind) (run : List Text) (H : Block) → is_trimmed H ≡ true → length run ≤ length H → let layout = layout_of kind run H in IsLaid layout.first layout.second H
 unfolding layout_at
-layout_laid kind run H h r = parts_laid kind.content kind.argument run H h r
+layout_laid kind run H h r = parts_laid (first_parts H) kind.content kind.argument run H h r
 
 -- ---- the content
 
@@ -119,7 +120,7 @@ block_in B kind late block h count =
     let H : Block = lines_in B block in
     let run : List Text = run_in kind late H in
     let layout = layout_of kind run H in
-    parts_in (length H) B kind (content_of block layout (length H)) (argument_of kind.argument (take layout.argument run) (part_of block 0 layout.argument)) (directive_options kind.options (drop layout.options run))
+    parts_in (length H) B kind (content_of block layout (length H)) (argument_of kind.argument (take layout.argument run) (part_of block 0 layout.argument)) (directive_options (first_parts H) kind.options (drop layout.options run))
     (content_in B block layout.first layout.second h count (layout_laid kind run H h.trimmed (run_in-le kind late H)))
 
 judged_in : (n : ℕ) (B : Block) (place : Place) (paragraph : Bool) (source : Part) (read : Result Read Wrong) → MayBeIn n B read → IsIn n B (directive_outcome_at source (and_then (judged_directive place paragraph) (of_block read)))

@@ -3,7 +3,7 @@ use Rattle.std.proofs.Common.{◌≡◌, ℕ, Bool, true, false, cond, List, len
 use Rattle.std.specs.Prelude.{not, ◌&&◌, option_map}
 use Rattle.std.specs.Option.{option_or}
 use Rattle.std.specs.Result.{result_map_both}
-use Rattle.rst_text.specs.Block.{Block, cut}
+use Rattle.rst_text.specs.Block.{Block, cut, first_parts}
 use Rattle.rst_markup_blocks.specs.declared.part.Part.{Part}
 use Rattle.rst_markup_directives.specs.Argument.{ArgumentMeaning, argument_of}
 use Rattle.rst_markup_directives.specs.Call.{part_of, content_of, is_empty}
@@ -49,7 +49,7 @@ unfolding read_block directive_by_layout
 block_kind kind late block H r h =
     let run = run_in kind late H in
     let layout = layout_of kind run H in
-    parts_kind kind (content_of block layout (length H)) (argument_of kind.argument (take layout.argument run) (part_of block 0 layout.argument)) (directive_options kind.options (drop layout.options run)) r h
+    parts_kind kind (content_of block layout (length H)) (argument_of kind.argument (take layout.argument run) (part_of block 0 layout.argument)) (directive_options (first_parts H) kind.options (drop layout.options run)) r h
 
 unblocked : (read : Result Read Wrong) (r : Read) → of_block read ≡ Ok r → read ≡ Ok r
 unblocked (Ok x) r h = let e : x ≡ r = cc in ap (λ (y : Read). Ok y) e

@@ -1,6 +1,6 @@
 -- What directives and substitution definitions take of looks: the blocks that they open, and how many lines their parts have.
 use Rattle.std.proofs.Common.{◌≡◌, ℕ, ◌-◌, ◌≤◌, Bool, true, false, cond, List, [], ◌∷◌, length, take, drop, Option, None, Some, option_map, Result, Ok, Err, arith, sym, subst}
-use Rattle.rst_text.specs.Block.{Block}
+use Rattle.rst_text.specs.Block.{Block, first_parts}
 use Rattle.rst_text.specs.Names.{normalized_white}
 use Rattle.rst_text.specs.Characters.{is_among}
 use Rattle.rst_markup_blocks.specs.declared.forms.Invocation.{Invocation}
@@ -93,7 +93,7 @@ block_short n kind late block H few =
     let run : List Text = run_in kind late H in
     let layout = layout_of kind run H in
     let within = block_within kind late H in
-    parts_short n kind (content_of block layout (length H)) (argument_of kind.argument (take layout.argument run) (part_of block 0 layout.argument)) (directive_options kind.options (drop layout.options run))
+    parts_short n kind (content_of block layout (length H)) (argument_of kind.argument (take layout.argument run) (part_of block 0 layout.argument)) (directive_options (first_parts H) kind.options (drop layout.options run))
     (argument_short n kind.argument (take layout.argument run) block layout.argument (omega (arith, few, within.argument))) (omega (arith, few))
 
 judged_short : (n : ℕ) (place : Place) (paragraph : Bool) (source : Part) (read : Result Read Wrong) → MayBeReadShort n read → AreOutcomeShort n (directive_outcome_at source (and_then (judged_directive place paragraph) (of_block read)))

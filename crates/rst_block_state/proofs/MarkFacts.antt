@@ -4,10 +4,11 @@ use Rattle.std.specs.Prelude.{IfSome, ◌==◌}
 use Rattle.std.specs.List.{last_or}
 use Rattle.std.specs.Option.{option_and_then}
 use Rattle.std.proofs.lemmas.List.{drop-drop}
+use Rattle.rst_settings.specs.declared.Parts.{Parts}
 use Rattle.rst_text.specs.Block.{is_blank, indentation}
 use Rattle.rst_markup_lines.specs.Enumerator.{written_at, framed, between_parentheses, before_one, enumerator_of}
 use Rattle.rst_markup_lines.specs.ExplicitMarks.{label_kind, labelled, label_by, label_of, colons, directive_mark_by, directive_mark_of}
-use Rattle.rst_markup_lines.specs.Field.{field_with, is_no_name, field_if, field_of}
+use Rattle.rst_markup_lines.specs.Field.{field_with, is_no_name, names_role, field_if, field_of}
 use Rattle.rst_markup_lines.specs.TextStart.{begins_with, first}
 use Rattle.rst_markup_lines.specs.Marker.{marker_of, is_bullet, bullet_by, bullet}
 use Rattle.rst_markup_lines.specs.OptionMarker.{PlacedOption, moved, with_next, options_from, option_at, tail_at, tail_after, option_tail, last_if, argument_width, marker_by, option_marker}
@@ -70,16 +71,16 @@ bullet_tells t = by (first t)
 abbrev InField : List ℕ → FieldMark → Type 0
 InField t f = Tells t f.marker
 
-pub field_tells : (t : List ℕ) → IfSome (field_of t) (λ f. Tells t f.marker)
+pub field_tells : (parts : Parts) (t : List ℕ) → IfSome (field_of parts t) (λ f. Tells t f.marker)
 unfolding field_of
-field_tells t = if_some (InField t) (begins_with 58 t) _ (search by)
+field_tells parts t = if_some (InField t) (begins_with 58 t) _ (search by)
   where
     named : (n : ℕ) (o : Option Marker) → IfSome o (Tells t) → IfSome (option_and_then (field_with n) o) (InField t)
     named n None h = tt
     named n (Some m) h = h
 
-    by : (o : Option ℕ) → IfSome (option_and_then (field_if t) o) (InField t)
-    by o = then_some (InField t) (field_if t) o (λ n. unless_some (InField t) (is_no_name n (drop 1 t)) (option_and_then (field_with n) (marker_of (n + 2) t)) (named n (marker_of (n + 2) t) (marker_tells (n + 2) t)))
+    by : (o : Option ℕ) → IfSome (option_and_then (field_if parts.marks t) o) (InField t)
+    by o = then_some (InField t) (field_if parts.marks t) o (λ n. unless_some (InField t) (is_no_name n (drop 1 t) || (parts.marks && names_role (drop 1 t) n)) (option_and_then (field_with n) (marker_of (n + 2) t)) (named n (marker_of (n + 2) t) (marker_tells (n + 2) t)))
 
 abbrev InEnumerator : List ℕ → Enumerator → Type 0
 InEnumerator t e = Tells t e.marker

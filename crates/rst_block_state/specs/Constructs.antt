@@ -2,7 +2,7 @@
 -- 'Transitions').
 use Rattle.std.specs.Prelude.{ℕ, Bool, List, [], ◌∷◌, ◌++◌, drop, codes, if◌then◌else◌}
 use Rattle.std.specs.Option.{option_map_or}
-use Rattle.rst_text.specs.Block.{Block, first_text, first_number}
+use Rattle.rst_text.specs.Block.{Block, first_text, first_number, first_parts}
 use Rattle.rst_tree.specs.declared.node.Node.{Node}
 use Rattle.rst_tree.specs.declared.note.Level.{Level}
 use Rattle.rst_tree.specs.declared.note.Level.TheVariants.{Info, Error, Severe}
@@ -121,7 +121,7 @@ construct_by Quote titles X = block_quote
 construct_by Bullet titles X = option_map_or (bullet_with titles X) (first (first_text X)) (plain_text titles X)
 construct_by EnumeratorKind titles X =
     option_map_or (λ e. item_of_list (enumerated_item e)) (item_enumerator (first_text X) (next_text X)) (plain_text titles X)
-construct_by Field titles X = option_map_or (λ m. item_of_list (field_item m)) (field_of (first_text X)) (plain_text titles X)
+construct_by Field titles X = option_map_or (λ m. item_of_list (field_item m)) (field_of (first_parts X) (first_text X)) (plain_text titles X)
 construct_by OptionItem titles X =
     option_map_or (λ m. item_of_list (option_item m)) (item_option (first_text X) (next_text X) (after_text X)) (plain_text titles X)
 construct_by Doctest titles X = doctest_block

@@ -11,11 +11,10 @@ use Rattle.rst_c.specs.declared.answer.Refusal.{Refusal}
 use Rattle.rst_c.specs.declared.answer.Refusal.TheVariants.{Source, Text}
 use Rattle.rst_settings.specs.Profile.{profile_of}
 use Rattle.rst_settings.specs.declared.Settings.{Settings}
-use Rattle.rst_text.specs.Lines.{lines_of}
 use Rattle.rst_text.specs.Text.{text_of}
 use Rattle.rst_tree.specs.declared.node.Node.{Node}
 use Rattle.rst_tree.specs.declared.note.Note.{Note}
-use Rattle.rst2pseudoxml_run.specs.Reading.{read_of}
+use Rattle.rst2pseudoxml_run.specs.Reading.{lines_under, read_of}
 use Rattle.rst2pseudoxml_run.specs.RunResult.{Parts, parts_of, result_of, result_of_read, result_of_text}
 use Rattle.rst2pseudoxml_run.specs.declared.end.End.{End}
 use Rattle.rst2pseudoxml_run.specs.declared.end.End.TheVariants.{Done, Read, TooLong, NotUtf8, TooDeep, NoMemory, WriteErr, WriteOut}
@@ -28,7 +27,7 @@ module _ (makes : Node × List Note → Parts) (settings : Settings) (bytes : Li
 
   text_needs : (text : Option (List ℕ)) → needs_memory (made_by makes (left_of_text settings bytes text)) ≡ true
   text_needs None = refl
-  text_needs (Some text) = read_needs (read_of (profile_of settings) (lines_of settings.tab text))
+  text_needs (Some text) = read_needs (read_of (profile_of settings) (lines_under settings text))
 
   short_needs : length bytes ≤ 16777216 → needs_memory (made_by makes (left_of settings bytes)) ≡ true
   short_needs short = rw (le-ltb 16777216 (length bytes) short) (text_needs (text_of bytes))
@@ -55,7 +54,7 @@ module _ (settings : Settings) (source bytes : List ℕ) where
 
   text_wanted : (text : Option (List ℕ)) → wanted_of (result_of_text (profile_of settings) settings source bytes text) ≡ made_by shows (left_of_text settings bytes text)
   text_wanted None = refl
-  text_wanted (Some text) = read_wanted (read_of (profile_of settings) (lines_of settings.tab text))
+  text_wanted (Some text) = read_wanted (read_of (profile_of settings) (lines_under settings text))
 
   left_wanted : wanted_of (result_of (profile_of settings) settings source bytes) ≡ made_by shows (left_of settings bytes)
   left_wanted =

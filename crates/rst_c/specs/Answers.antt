@@ -15,7 +15,6 @@ use Rattle.rst_json.specs.Records.{node_record}
 use Rattle.rst_settings.specs.Profile.{profile_of}
 use Rattle.rst_settings.specs.declared.Settings.{Settings}
 use Rattle.rst_text.specs.Counted.{inner_of}
-use Rattle.rst_text.specs.Lines.{lines_of}
 use Rattle.rst_text.specs.Text.{text_of}
 use Rattle.rst_transform.specs.Finishing.{leaves}
 use Rattle.rst_transform.specs.declared.finishing.Finished.{Finished}
@@ -23,7 +22,7 @@ use Rattle.rst_transform_messages.specs.Messages.{highest_level}
 use Rattle.rst_tree.specs.PrintedAttributes.{with_printed_attrs}
 use Rattle.rst_tree.specs.declared.node.Node.{Node}
 use Rattle.rst_tree.specs.declared.note.Note.{Note}
-use Rattle.rst2pseudoxml_run.specs.Reading.{read_of}
+use Rattle.rst2pseudoxml_run.specs.Reading.{lines_under, read_of}
 use Rattle.rst2pseudoxml_run.specs.RunResult.{Parts, ended_by, halting, is_reported, result_of}
 use Rattle.rst2pseudoxml_run.specs.declared.end.End.{End}
 use Rattle.rst2pseudoxml_run.specs.declared.end.End.TheVariants.{TooLong, NotUtf8, TooDeep, NoMemory}
@@ -40,7 +39,7 @@ left_of_read settings (Err line) = Err (TooDeep line)
 
 abbrev pub left_of_text : Settings → List ℕ → Option (List ℕ) → Left
 left_of_text settings bytes None = Err (NotUtf8 (utf8_valid_len bytes))
-left_of_text settings bytes (Some text) = left_of_read settings (read_of (profile_of settings) (lines_of settings.tab text))
+left_of_text settings bytes (Some text) = left_of_read settings (read_of (profile_of settings) (lines_under settings text))
 
 -- what is left of some bytes
 abbrev pub left_of : Settings → List ℕ → Left

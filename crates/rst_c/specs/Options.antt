@@ -1,6 +1,8 @@
 -- The options of a call (Configuration, 'report_level', 'halt_level', 'exit_status_level', 'doctitle_xform', 'docinfo_xform', 'tab_width',
--- 'line_length_limit').
-use Rattle.std.specs.Prelude.{◌≡◌, ℕ, Bool, true, false, ◌&&◌, ◌==◌, nat_le, slice_index, Option, None, Some}
+-- 'line_length_limit'), and the profile.
+use Rattle.std.specs.Prelude.{◌≡◌, ℕ, Bool, true, false, if◌then◌else◌, ◌&&◌, ◌==◌, nat_le, Option, None, Some}
+use Rattle.rst_settings.specs.Parts.{all_parts, no_parts}
+use Rattle.rst_settings.specs.declared.Parts.{Parts}
 use Rattle.rst_settings.specs.declared.Settings.{Settings}
 use Rattle.rst_settings.specs.Threshold.{threshold_number}
 use Rattle.rst_c.specs.declared.options.RstOptions.{RstOptions}
@@ -13,8 +15,11 @@ abbrev pub are_in_range : RstOptions → Bool
 are_in_range options =
     (options.size == 16) && is_within 1 options.report 5 && is_within 1 options.halt 5 && is_within 1 options.exit_status 5
     && is_within 1 options.tab_width 99 && is_within 1 options.line_length_limit 16777216
-    && nat_le options.no_doc_title 1 && nat_le options.no_doc_info 1
-    && (slice_index options.unused 0 == 0) && (slice_index options.unused 1 == 0)
+    && nat_le options.no_doc_title 1 && nat_le options.no_doc_info 1 && nat_le options.profile 1 && (options.unused == 0)
+
+-- the parts of the markup that a profile has, by its number: 0 has none, 1 has all
+abbrev pub parts_of_profile : ℕ → Parts
+parts_of_profile number = if number == 0 then no_parts else all_parts
 
 -- options that are in their ranges choose these settings; thresholds go by their numbers
 pub record SetsOptions (options : RstOptions) (settings : Settings) : Type 0 where
@@ -26,6 +31,7 @@ pub record SetsOptions (options : RstOptions) (settings : Settings) : Type 0 whe
   pub info : settings.info ≡ (options.no_doc_info == 0)
   pub tab : settings.tab ≡ options.tab_width
   pub limit : settings.limit ≡ options.line_length_limit
+  pub parts : settings.parts ≡ parts_of_profile options.profile
 
 -- the settings that options choose, or none where one isn't in its range
 abbrev pub SetsIf : RstOptions → Option Settings → Type 0

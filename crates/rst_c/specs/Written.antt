@@ -1,6 +1,6 @@
 -- Options and what calls make, written out, for worked examples. No rule of markup.
 use Prim.Native.String.{String}
-use Rattle.std.specs.Prelude.{ℕ, List, [], ◌∷◌, Ok, codes}
+use Rattle.std.specs.Prelude.{ℕ, Ok, codes}
 use Rattle.rst_c.specs.Answers.{Wanted}
 use Rattle.rst_c.specs.declared.options.RstOptions.{RstOptions}
 
@@ -15,7 +15,8 @@ usual_options = record {
   line_length_limit = 10000;
   no_doc_title = 0;
   no_doc_info = 0;
-  unused = 0 ∷ 0 ∷ [];
+  profile = 0;
+  unused = 0;
 }
 
 -- a tree, JSON or records, and messages were made, with this exit status

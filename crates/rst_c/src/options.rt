@@ -1,11 +1,11 @@
 //! The options of a call.
 ghost use Rattle.std.specs.Prelude.{◌≡◌, ◌≤◌};
 ghost use Rattle.rst_settings.specs.Threshold.{threshold_number};
-ghost use Rattle.rst_c.specs.Options.{is_within, are_in_range, SetsIf};
+ghost use Rattle.rst_c.specs.Options.{is_within, are_in_range, parts_of_profile, SetsIf};
 
-use rst_settings::{Settings, Threshold};
+use rst_settings::{Parts, Settings, Threshold};
 
-/// What the options of the program set. Levels are 1 to 5, and 5 is none.
+/// What the options of the program set, and the profile. Levels are 1 to 5, and 5 is none.
 #[repr(C)]
 #[derive(Drop)]
 pub struct RstOptions {
@@ -25,8 +25,10 @@ pub struct RstOptions {
     pub no_doc_title: u8,
     /// 1 if a leading field list doesn't become bibliographic elements, else 0.
     pub no_doc_info: u8,
+    /// The profile: 1 is the one with every part of the markup that can be asked for, 0 the one without them.
+    pub profile: u8,
     /// 0.
-    pub unused: [u8; 2],
+    pub unused: u8,
 }
 
 impl RstOptions {
@@ -45,6 +47,7 @@ impl RstOptions {
             info: self.no_doc_info == 0,
             tab: self.tab_width,
             limit: self.line_length_limit as usize,
+            parts: parts_of_profile(self.profile),
         })
     }
 
@@ -60,8 +63,8 @@ impl RstOptions {
             && is_within(1, self.line_length_limit, 16_777_216)
             && self.no_doc_title <= 1
             && self.no_doc_info <= 1
-            && self.unused[0] == 0
-            && self.unused[1] == 0
+            && self.profile <= 1
+            && self.unused == 0
     }
 }
 
@@ -85,4 +88,11 @@ fn threshold_of(number: u8) -> Threshold
         4 => Threshold::Severe,
         _ => Threshold::Never,
     }
+}
+
+/// The parts of the markup that a profile, by its number 0 or 1, has.
+fn parts_of_profile(number: u8) -> Parts
+    ensures { result ≡ parts_of_profile number }
+{
+    if number == 0 { Parts::NONE } else { Parts::ALL }
 }

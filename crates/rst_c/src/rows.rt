@@ -7,6 +7,7 @@ ghost use Rattle.rst_c.specs.Options.{are_in_range, SetsOptions};
 ghost use Rattle.rst_c.specs.Written.{made_wanted, usual_options};
 ghost use Rattle.rst_c.specs.declared.answer.Refusal.TheVariants.{Options, Source, Text};
 ghost use Rattle.rst_c.specs.declared.document.Form.TheVariants.{DocumentJson, DocumentRecords, MessagesJson};
+ghost use Rattle.rst_settings.specs.Parts.{all_parts};
 ghost use Rattle.rst_settings.specs.declared.Threshold.TheVariants as threshold;
 ghost use Rattle.rst_tree.specs.Forest.{bare, element, words};
 ghost use Rattle.rst_tree.specs.declared.node.Node.TheVariants.{Element};
@@ -20,7 +21,7 @@ pub fn options()
     ensures usual { are_in_range usual_options ≡ true }
     ensures least { are_in_range (record usual_options { report = 1; halt = 1; exit_status = 1; tab_width = 1; line_length_limit = 1 }) ≡ true }
     ensures most { are_in_range (record usual_options
-        { report = 5; halt = 5; exit_status = 5; tab_width = 99; line_length_limit = 16777216; no_doc_title = 1; no_doc_info = 1 }) ≡ true }
+        { report = 5; halt = 5; exit_status = 5; tab_width = 99; line_length_limit = 16777216; no_doc_title = 1; no_doc_info = 1; profile = 1 }) ≡ true }
     ensures size { map (λ n. are_in_range (record usual_options { size = n })) (0 ∷ 15 ∷ 17 ∷ []) ≡ false ∷ false ∷ false ∷ [] }
     ensures report { map (λ n. are_in_range (record usual_options { report = n })) (0 ∷ 6 ∷ []) ≡ false ∷ false ∷ [] }
     ensures halt { map (λ n. are_in_range (record usual_options { halt = n })) (0 ∷ 6 ∷ []) ≡ false ∷ false ∷ [] }
@@ -29,7 +30,8 @@ pub fn options()
     ensures line_length_limit { map (λ n. are_in_range (record usual_options { line_length_limit = n })) (0 ∷ 16777217 ∷ []) ≡ false ∷ false ∷ [] }
     ensures no_doc_title { are_in_range (record usual_options { no_doc_title = 2 }) ≡ false }
     ensures no_doc_info { are_in_range (record usual_options { no_doc_info = 2 }) ≡ false }
-    ensures unused { map (λ bytes. are_in_range (record usual_options { unused = bytes })) ((1 ∷ 0 ∷ []) ∷ (0 ∷ 1 ∷ []) ∷ []) ≡ false ∷ false ∷ [] }
+    ensures profile { map (λ n. are_in_range (record usual_options { profile = n })) (2 ∷ 255 ∷ []) ≡ false ∷ false ∷ [] }
+    ensures unused { map (λ n. are_in_range (record usual_options { unused = n })) (1 ∷ 255 ∷ []) ≡ false ∷ false ∷ [] }
 {}
 
 /// The settings that options choose (Header, 'rst_options').
@@ -41,6 +43,7 @@ pub fn settings()
         (record usual { report = threshold.Severe; halt = threshold.Never; exit = threshold.Info }) }
     ensures no_doc_title { SetsOptions (record usual_options { no_doc_title = 1 }) (record usual { title = false }) }
     ensures no_doc_info { SetsOptions (record usual_options { no_doc_info = 1 }) (record usual { info = false }) }
+    ensures profile { SetsOptions (record usual_options { profile = 1 }) (record usual { parts = all_parts }) }
 {}
 
 /// The result of each end (Header, 'rst_end').

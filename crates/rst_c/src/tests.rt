@@ -13,7 +13,8 @@ const OPTIONS: RstOptions = RstOptions {
     line_length_limit: 10_000,
     no_doc_title: 0,
     no_doc_info: 0,
-    unused: [0, 0],
+    profile: 0,
+    unused: 0,
 };
 
 const TEXT: &[u8] = b"A *b*\n\n*c\n";
@@ -43,6 +44,14 @@ const JSON: &str = "[\"document\",0,{},[\"paragraph\",1,{},\"A \",[\"emphasis\",
 const NOTES: &str =
     "[{\"line\":3,\"level\":2,\"type\":\"WARNING\",\"text\":\"Inline emphasis start-string without end-string.\"}]";
 
+/// `:t:`a`: b`, whose line is a field by the base.
+const FIELD: &str = "[\"document\",0,{},[\"docinfo\",1,{},[\"field\",1,{\"classes\":[\"t-a\"]},\
+[\"field_name\",1,{},\"t:\",[\"title_reference\",1,{},\"a\"]],[\"field_body\",1,{},[\"paragraph\",1,{},\"b\"]]]]]";
+
+/// The same by the wider profile, where it begins with a role.
+const PARAGRAPH: &str =
+    "[\"document\",0,{},[\"paragraph\",1,{},[\"title_reference\",1,{},\"a\"],\": b\"]]";
+
 /// The records of `a`: a document, a paragraph at line 1, and the text.
 const RECORDS: &str = "\
 \x55\0\0\0\0\0\0\0\x01\0\0\0\0\0\0\0\0\x08\0\0\0\0\0\0\0document\0\0\0\0\0\0\0\0\
@@ -58,6 +67,10 @@ fn before() -> RstResult {
         length: 9,
         messages: 9,
     }
+}
+
+fn with_profile(profile: u8) -> RstOptions {
+    RstOptions { profile, ..OPTIONS }
 }
 
 /// The start of a room.
@@ -87,6 +100,24 @@ fn prints(rt: HostRuntime) -> Result<(), Fail> {
     assert_eq!(rt; text_in(&tree, answer.length)?, TREE);
     assert_eq!(rt; text_in(&messages, answer.messages)?, MESSAGES);
     Ok(())
+}
+
+#[test]
+fn reads_by_the_profile(rt: HostRuntime) -> Result<(), Fail> {
+    let text = b":t:`a`: b\n";
+    let (mut json, mut answer) = ([7u8; 600], before());
+    rst_json(rt.alloc(), text, &with_profile(0), &mut json, &mut answer);
+    assert_eq!(rt; text_in(&json, answer.length)?, FIELD);
+    rst_json(rt.alloc(), text, &with_profile(1), &mut json, &mut answer);
+    assert_eq!(rt; text_in(&json, answer.length)?, PARAGRAPH);
+    Ok(())
+}
+
+#[test]
+fn refuses_another_profile(rt: HostRuntime) {
+    let mut answer = before();
+    rst_json(rt.alloc(), TEXT, &with_profile(2), &mut [], &mut answer);
+    assert_eq!(rt; answer.end, 1);
 }
 
 #[test]

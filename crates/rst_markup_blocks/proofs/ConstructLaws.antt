@@ -17,7 +17,7 @@ use Rattle.rst_markup_blocks.specs.declared.kind.Kind.TheVariants.{Blank, Quote,
 use Rattle.rst_markup_blocks.proofs.AdornmentLaws.{adornment_within}
 use Rattle.rst_markup_blocks.proofs.ExplicitLaws.{explicit_within}
 use Rattle.rst_markup_blocks.proofs.ReachLaws.{grid_reaches, reach_within, simple_reaches}
-use Rattle.rst_markup_blocks.proofs.RowLaws.{blank_within, quote_within, bullet_within, enumerator_within, hanging_within, indented_within, doctest_within, text_within, same_after, same_first, same_next}
+use Rattle.rst_markup_blocks.proofs.RowLaws.{blank_within, quote_within, bullet_within, enumerator_within, hanging_within, indented_within, doctest_within, text_within, same_after, same_first, same_next, same_parts}
 use Rattle.rst_markup_blocks.proofs.TableLaws.{grid_within, simple_within}
 
 pub row_within : (k : Kind) (titles : Bool) (X : Block) → 1 ≤ length X → row_holds k X ≡ true → (1 ≤ row_size k titles X) × (row_size k titles X ≤ length X)
@@ -46,7 +46,7 @@ row_on_three Blank X Y h = ap is_blank (same_first X Y h)
 row_on_three Quote X Y h = ap (begins_with 32) (same_first X Y h)
 row_on_three Bullet X Y h = ap (λ t. is_some (bullet t)) (same_first X Y h)
 row_on_three Enumerator X Y h = ap₂ (λ t n. is_some (item_enumerator t n)) (same_first X Y h) (same_next X Y h)
-row_on_three Field X Y h = ap (λ t. is_some (field_of t)) (same_first X Y h)
+row_on_three Field X Y h = ap₂ (λ parts t. is_some (field_of parts t)) (same_parts X Y h) (same_first X Y h)
 row_on_three OptionItem X Y h =
     ap₂ (λ t n. is_some (item_option t n (after_text X))) (same_first X Y h) (same_next X Y h)
     ∙ ap (λ a. is_some (item_option (first_text Y) (next_text Y) a)) (same_after X Y h)

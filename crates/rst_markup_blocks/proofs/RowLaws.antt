@@ -7,7 +7,7 @@ use Rattle.rst_markup_lines.specs.Adornment.{adornment_of}
 use Rattle.rst_markup_blocks.specs.Forms.{text_form}
 use Rattle.rst_markup_blocks.specs.declared.form.TextForm.{TextForm}
 use Rattle.rst_markup_blocks.specs.declared.form.TextForm.TheVariants.{Paragraph, ShortUnderline, Definition, Title}
-use Rattle.rst_text.specs.Block.{Block, first_text}
+use Rattle.rst_text.specs.Block.{Block, first_parts, first_text}
 use Rattle.rst_text.specs.Extent.{extent}
 use Rattle.rst_markup_lines.specs.TextStart.{begins_with}
 use Rattle.rst_markup_lines.specs.Marker.{bullet, doctest}
@@ -29,6 +29,12 @@ same_first [] [] h = refl
 same_first [] (k ∷ ks) h = cc
 same_first (l ∷ ls) [] h = cc
 same_first (l ∷ ls) (k ∷ ks) h = ap first_text h
+
+pub same_parts : (X Y : Block) → take 3 X ≡ take 3 Y → first_parts X ≡ first_parts Y
+same_parts [] [] h = refl
+same_parts [] (k ∷ ks) h = cc
+same_parts (l ∷ ls) [] h = cc
+same_parts (l ∷ ls) (k ∷ ks) h = ap first_parts h
 
 -- the second of a block's first three lines is that of the block
 second_taken : (X : Block) → first_text (drop 1 (take 3 X)) ≡ next_text X

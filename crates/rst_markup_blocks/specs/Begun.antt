@@ -1,6 +1,7 @@
 -- What begins at a line (Markup Specification, 'Body Elements').
 use Rattle.std.specs.Prelude.{◌≡◌, ℕ, List, Some}
-use Rattle.rst_text.specs.Block.{Block, first_text}
+use Rattle.rst_settings.specs.declared.Parts.{Parts}
+use Rattle.rst_text.specs.Block.{Block, first_parts, first_text}
 use Rattle.rst_markup_lines.specs.Adornment.{adornment_of}
 use Rattle.rst_markup_lines.specs.Field.{field_of}
 use Rattle.rst_markup_lines.specs.TextStart.{first}
@@ -29,17 +30,17 @@ kind_in Anonymous = kinds.Anonymous
 kind_in (Adornment mark) = kinds.Adornment
 kind_in Text = kinds.Text
 
--- the mark in the text of a line, before the next two, is that by which the line is of its kind
-abbrev pub IsMarked : List ℕ → List ℕ → List ℕ → Begun → Type 0
-IsMarked t next after (Bullet mark marker) = (first t ≡ Some mark) × (bullet t ≡ Some marker)
-IsMarked t next after (Enumerator e) = item_enumerator t next ≡ Some e
-IsMarked t next after (Field mark) = field_of t ≡ Some mark
-IsMarked t next after (OptionItem marker) = item_option t next after ≡ Some marker
-IsMarked t next after (Line marker) = line_bar t ≡ Some marker
-IsMarked t next after (Adornment mark) = adornment_of t ≡ Some mark
-IsMarked t next after begun = Unit {0}
+-- the mark in the text of a line with these parts, before the next two, is that by which the line is of its kind
+abbrev pub IsMarked : Parts → List ℕ → List ℕ → List ℕ → Begun → Type 0
+IsMarked parts t next after (Bullet mark marker) = (first t ≡ Some mark) × (bullet t ≡ Some marker)
+IsMarked parts t next after (Enumerator e) = item_enumerator t next ≡ Some e
+IsMarked parts t next after (Field mark) = field_of parts t ≡ Some mark
+IsMarked parts t next after (OptionItem marker) = item_option t next after ≡ Some marker
+IsMarked parts t next after (Line marker) = line_bar t ≡ Some marker
+IsMarked parts t next after (Adornment mark) = adornment_of t ≡ Some mark
+IsMarked parts t next after begun = Unit {0}
 
 -- what begins at the first line of a block
 pub record IsBegun (X : Block) (begun : Begun) : Type 0 where
   pub kind : kind_in begun ≡ kind_at X
-  pub mark : IsMarked (first_text X) (next_text X) (after_text X) begun
+  pub mark : IsMarked (first_parts X) (first_text X) (next_text X) (after_text X) begun

@@ -1,7 +1,7 @@
 -- The rows of the table of constructs (Markup Specification, 'Body Elements'), each with its condition, on a block
 -- whose first line it is about.
 use Rattle.std.specs.Prelude.{ℕ, Bool, true, is_some}
-use Rattle.rst_text.specs.Block.{Block, first_text, is_blank}
+use Rattle.rst_text.specs.Block.{Block, first_parts, first_text, is_blank}
 use Rattle.rst_text.specs.Extent.{extent}
 use Rattle.rst_text.specs.Reach.{reach}
 use Rattle.rst_markup_lines.specs.TextStart.{begins_with}
@@ -29,7 +29,7 @@ is_enumerator_row X = is_some (item_enumerator (first_text X) (next_text X))
 
 -- a name between colons begins a field
 abbrev pub is_field_row : Block → Bool
-is_field_row X = is_some (field_of (first_text X))
+is_field_row X = is_some (field_of (first_parts X) (first_text X))
 
 -- options begin an item of an option list, if a description follows
 abbrev pub is_option_row : Block → Bool

@@ -1,6 +1,7 @@
 //! What begins at a line, with the data of its mark.
 ghost use Rattle.std.specs.Prelude.{◌≡◌, ℕ, List, ◌<◌, false, length, drop, chars};
-ghost use Rattle.rst_markup_blocks.specs.Prelude.{Block, first_text, is_blank, Looked, block_of};
+ghost use Rattle.rst_settings.specs.declared.Parts.{Parts};
+ghost use Rattle.rst_markup_blocks.specs.Prelude.{Block, first_parts, first_text, is_blank, Looked, block_of};
 ghost use Rattle.rst_markup_blocks.specs.Conditions.{next_text, after_text};
 ghost use Rattle.rst_markup_blocks.specs.Kinds.{first_kind, kind_at, kind_of, later_kinds};
 ghost use Rattle.rst_markup_blocks.specs.Begun as spec;
@@ -13,6 +14,7 @@ use rst_markup_lines::{
     enumerator_of, field_of, first_char, is_blank, is_grid_border, is_simple_border, line_bar,
     underscores,
 };
+use rst_settings::Parts;
 use rst_text::{Looks, View};
 
 /// What begins at a line: its [`Kind`], with the mark by which it is of that kind.
@@ -87,16 +89,16 @@ pub fn begun_at(view: &View<'_>, at: usize, looks: &mut Looks) -> Begun
     }
     let next = below_text(view, at, 1, looks);
     let after = below_text(view, at, 2, looks);
-    begun_by(text, next, after)
+    begun_by(view.parts(at), text, next, after)
 }
 
-/// What begins at a line that isn't blank before the next two: the first row of the table of constructs whose condition holds.
+/// What begins at a line that isn't blank, with these parts, before the next two: the first row of the table of constructs whose condition holds.
 #[inline(never)]
 #[tactic(auto, using(crate::proofs::KindRows::bullet_is))]
-fn begun_by(text: &str, next: &str, after: &str) -> Begun
+fn begun_by(parts: Parts, text: &str, next: &str, after: &str) -> Begun
     requires { is_blank (chars text.now) ≡ false }
-    ensures kind { (X : Block) → first_text X ≡ chars text.now → next_text X ≡ chars next.now → after_text X ≡ chars after.now → spec.kind_in result ≡ kind_at X }
-    ensures mark { spec.IsMarked (chars text.now) (chars next.now) (chars after.now) result }
+    ensures kind { (X : Block) → first_parts X ≡ parts → first_text X ≡ chars text.now → next_text X ≡ chars next.now → after_text X ≡ chars after.now → spec.kind_in result ≡ kind_at X }
+    ensures mark { spec.IsMarked parts (chars text.now) (chars next.now) (chars after.now) result }
 {
     if begins_with(' ', text) {
         return Begun::Quote;
@@ -107,7 +109,7 @@ fn begun_by(text: &str, next: &str, after: &str) -> Begun
     if let Some(enumerator) = item_enumerator(text, next) {
         return Begun::Enumerator(enumerator);
     }
-    if let Some(mark) = field_of(text) {
+    if let Some(mark) = field_of(parts, text) {
         return Begun::Field(mark);
     }
     if let Some(marker) = item_option(text, next, after) {
@@ -120,7 +122,7 @@ fn begun_by(text: &str, next: &str, after: &str) -> Begun
 #[tactic(auto, using(crate::proofs::KindRows::later_kind_is))]
 fn later_begun(text: &str) -> Begun
     ensures kind { (X : Block) → first_text X ≡ chars text.now → spec.kind_in result ≡ first_kind later_kinds X }
-    ensures mark { (next after : List ℕ) → spec.IsMarked (chars text.now) next after result }
+    ensures mark { (parts : Parts) (next after : List ℕ) → spec.IsMarked parts (chars text.now) next after result }
 {
     if doctest(text).is_some() {
         return Begun::Doctest;

@@ -33,7 +33,7 @@ impl Construct for Kind {
             Kind::Quote => begins_with(' ', text),
             Kind::Bullet => bullet(text).is_some(),
             Kind::Enumerator => item_enumerator(text, below_text(view, i, 1, looks)).is_some(),
-            Kind::Field => field_of(text).is_some(),
+            Kind::Field => field_of(view.parts(i), text).is_some(),
             Kind::OptionItem => {
                 let next = below_text(view, i, 1, looks);
                 let after = below_text(view, i, 2, looks);

@@ -3,6 +3,8 @@
 #![tactic(auto, unfolding(crate::proofs::Computing::rst_markup_blocks))]
 
 ghost use Rattle.std.specs.Prelude.{◌≡◌, true, false, Some, None, codes, ◌∷◌, [], map};
+ghost use Rattle.rst_settings.specs.Parts.{all_parts, no_parts};
+ghost use Rattle.rst_text.specs.Lines.{numbered_from};
 ghost use Rattle.rst_text.specs.Written.{block};
 ghost use Rattle.rst_markup_blocks.specs.Attributions.{attribution_at};
 ghost use Rattle.rst_markup_blocks.specs.Explicit.{explicit_of};
@@ -29,6 +31,8 @@ pub fn kinds()
     ensures options { map (λ next. kind_at (block ("-a" ∷ next ∷ "  c" ∷ []))) ("" ∷ " b" ∷ "b" ∷ []) ≡ OptionItem ∷ OptionItem ∷ Text ∷ [] }
     ensures options_alone { map (λ after. kind_at (block ("-a" ∷ "" ∷ after ∷ "  c" ∷ []))) ("b" ∷ "" ∷ []) ≡ Text ∷ Text ∷ [] }
     ensures option_with_text { kind_at (block ("-a  b" ∷ "c" ∷ [])) ≡ OptionItem }
+    ensures roles { map (λ parts. map (λ t. kind_at (numbered_from parts 1 (codes t ∷ []))) (":mod:`a`: b" ∷ ":a\\:`b`: c" ∷ [])) (no_parts ∷ all_parts ∷ [])
+        ≡ (Field ∷ Field ∷ []) ∷ (Text ∷ Field ∷ []) ∷ [] }
 {}
 
 /// Where items, quotes and blocks of one kind of line end (Markup Specification, 'Body Elements').

@@ -4,7 +4,8 @@ use Rattle.std.specs.List.{prefix_len}
 use Rattle.std.proofs.lemmas.Bool.{cond_both}
 use Rattle.std.proofs.lemmas.List.{drop-drop, length-map, length-take}
 use Rattle.std.proofs.lemmas.List.Folds.{length-prefix_len}
-use Rattle.rst_text.specs.Block.{Line, Block, cut, is_blank}
+use Rattle.rst_settings.specs.declared.Parts.{Parts}
+use Rattle.rst_text.specs.Block.{Line, Block, cut, first_parts, is_blank}
 use Rattle.rst_text.specs.Names.{normalized_white}
 use Rattle.rst_text.proofs.Indented.{is_indented-part}
 use Rattle.rst_text.specs.Characters.{is_among}
@@ -63,8 +64,8 @@ content_block B block layout all b inside within = (
 
 -- ---- places in a block
 
-before_field-le : (run : List Text) → before_field run ≤ length run
-before_field-le run = omega (arith, length-prefix_len (λ t. not (begins_field t)) run, length-take (before_field run) run)
+before_field-le : (parts : Parts) (run : List Text) → before_field parts run ≤ length run
+before_field-le parts run = omega (arith, length-prefix_len (λ t. not (begins_field parts t)) run, length-take (before_field parts run) run)
 
 first_run-le : (B : Block) → length (first_run B) ≤ length B
 first_run-le B =
@@ -78,25 +79,25 @@ pub run_in-le : (kind : Kind) (late : Bool) (H : Block) → length (run_in kind 
 unfolding run_in
 run_in-le kind late H = grind (arith, first_run-le H)
 
-without_within : (run : List Text) (all rest : ℕ) → length run ≤ all → rest ≤ all → IsWithin (parts_without_argument run all rest) all
-without_within run all rest h k =
-    cond_both (before_field run == length run) _ _ (λ layout. IsWithin layout all)
+without_within : (parts : Parts) (run : List Text) (all rest : ℕ) → length run ≤ all → rest ≤ all → IsWithin (parts_without_argument parts run all rest) all
+without_within parts run all rest h k =
+    cond_both (before_field parts run == length run) _ _ (λ layout. IsWithin layout all)
     (λ _. record { argument = omega arith; first = omega arith; second = omega arith })
-    (λ _. record { argument = omega arith; first = omega (arith, before_field-le run); second = omega arith })
+    (λ _. record { argument = omega arith; first = omega (arith, before_field-le parts run); second = omega arith })
 
-parts_within : (content : ContentKind) (argument : ArgumentKind) (run : List Text) (all rest : ℕ) → length run ≤ all → rest ≤ all → IsWithin (layout_by content argument run all rest) all
-parts_within Paragraph argument run all rest h k = record { argument = omega arith; first = omega arith; second = omega arith }
-parts_within _ NoArgument run all rest h k = without_within run all rest h k
-parts_within _ _ run all rest h k = record { argument = omega (arith, before_field-le run); first = omega arith; second = omega arith }
+parts_within : (parts : Parts) (content : ContentKind) (argument : ArgumentKind) (run : List Text) (all rest : ℕ) → length run ≤ all → rest ≤ all → IsWithin (layout_by parts content argument run all rest) all
+parts_within parts Paragraph argument run all rest h k = record { argument = omega arith; first = omega arith; second = omega arith }
+parts_within parts _ NoArgument run all rest h k = without_within parts run all rest h k
+parts_within parts _ _ run all rest h k = record { argument = omega (arith, before_field-le parts run); first = omega arith; second = omega arith }
 
-layout_within : (kind : Kind) (run : List Text) (all rest : ℕ) → length run ≤ all → rest ≤ all → IsWithin (layout_at kind run all rest) all
+layout_within : (parts : Parts) (kind : Kind) (run : List Text) (all rest : ℕ) → length run ≤ all → rest ≤ all → IsWithin (layout_at parts kind run all rest) all
 unfolding layout_at
-layout_within kind run all rest h k = parts_within kind.content kind.argument run all rest h k
+layout_within parts kind run all rest h k = parts_within parts kind.content kind.argument run all rest h k
 
 pub block_within : (kind : Kind) (late : Bool) (H : Block) → IsWithin (layout_of kind (run_in kind late H) H) (length H)
 block_within kind late H =
     let run : List Text = run_in kind late H in
-    layout_within kind run (length H) (after_blank H (length run)) (run_in-le kind late H) (omega (arith, run_in-le kind late H, blank_len-le (drop (length run) H), length-drop (length run) H))
+    layout_within (first_parts H) kind run (length H) (after_blank H (length run)) (run_in-le kind late H) (omega (arith, run_in-le kind late H, blank_len-le (drop (length run) H), length-drop (length run) H))
 
 -- ---- what is read
 
@@ -139,7 +140,7 @@ read_in_block B kind late block H b count =
     let within = block_within kind late H in
     let layout : Layout = layout_of kind run H in
     let inside : block.from + length H ≤ block.to = omega (arith, b.ordered, count) in
-    parts_in_block B kind (content_of block layout (length H)) (argument_of kind.argument (take layout.argument run) (part_of block 0 layout.argument)) (directive_options kind.options (drop layout.options run))
+    parts_in_block B kind (content_of block layout (length H)) (argument_of kind.argument (take layout.argument run) (part_of block 0 layout.argument)) (directive_options (first_parts H) kind.options (drop layout.options run))
     (content_block B block layout (length H) b within inside)
     (argument_in B kind.argument (take layout.argument run) (part_of block 0 layout.argument) (part_block B block 0 layout.argument b (omega arith) (omega (arith, within.argument, inside))))
 

@@ -5,6 +5,7 @@ use Rattle.std.specs.Borrow.{Bor}
 use Rattle.std.specs.List.{prefix_len}
 use Rattle.std.specs.Prelude.{slice_index_or}
 use Rattle.std.specs.Str.{chars}
+use Rattle.rst_settings.specs.declared.Parts.{Parts}
 use Rattle.rst_markup_lines.specs.TextStart.{begins_with}
 use Rattle.rst_markup_directives.specs.Characters.{Text}
 use Rattle.rst_markup_directives.specs.Lines.{texts_of}
@@ -29,25 +30,25 @@ first_group t (u ∷ us) = ap (onto_groups t) (first_group u us) ∙ by (deep_le
     by n true rest = let one : 1 + n ≡ suc n = omega arith in rw one refl
     by n false rest = ap (λ gs. (t, []) ∷ gs) (sym rest)
 
-first_field : (t : Text) (ts : List Text) → fields_in (t ∷ ts) ≡ onto_fields (option_field t (take (deep_len ts) ts)) (fields_in (drop (deep_len ts) ts))
-first_field t ts = ap fields_of (first_group t ts)
+first_field : (parts : Parts) (t : Text) (ts : List Text) → fields_in parts (t ∷ ts) ≡ onto_fields (option_field parts t (take (deep_len ts) ts)) (fields_in parts (drop (deep_len ts) ts))
+first_field parts t ts = ap (fields_of parts) (first_group t ts)
 
 after_fields-onto : (done : List FieldText) (f : FieldText) (more : Option (List FieldText)) → after_fields done (onto_fields (Some f) more) ≡ after_fields (done ++ f ∷ []) more
 after_fields-onto done f None = refl
 after_fields-onto done f (Some more) = ap Some (sym (append_assoc done (f ∷ []) more))
 
 -- one field more
-pub fields-more : (X : List Text) (t : Text) (ts : List Text) (done : List FieldText) (f : FieldText) (whole : Option (List FieldText)) → X ≡ t ∷ ts
-    → Some f ≡ option_field t (take (deep_len ts) ts) → after_fields done (fields_in X) ≡ whole → after_fields (done ++ f ∷ []) (fields_in (drop (deep_len ts) ts)) ≡ whole
-fields-more X t ts done f whole e found h =
-    sym (after_fields-onto done f (fields_in (drop (deep_len ts) ts))) ∙ ap (λ field. after_fields done (onto_fields field (fields_in (drop (deep_len ts) ts)))) found
-    ∙ ap (after_fields done) (sym (ap fields_in e ∙ first_field t ts)) ∙ h
+pub fields-more : (parts : Parts) (X : List Text) (t : Text) (ts : List Text) (done : List FieldText) (f : FieldText) (whole : Option (List FieldText)) → X ≡ t ∷ ts
+    → Some f ≡ option_field parts t (take (deep_len ts) ts) → after_fields done (fields_in parts X) ≡ whole → after_fields (done ++ f ∷ []) (fields_in parts (drop (deep_len ts) ts)) ≡ whole
+fields-more parts X t ts done f whole e found h =
+    sym (after_fields-onto done f (fields_in parts (drop (deep_len ts) ts))) ∙ ap (λ field. after_fields done (onto_fields field (fields_in parts (drop (deep_len ts) ts)))) found
+    ∙ ap (after_fields done) (sym (ap (fields_in parts) e ∙ first_field parts t ts)) ∙ h
 
 -- a line that begins no field
-pub fields-stop : (X : List Text) (t : Text) (ts : List Text) (done : List FieldText) (whole : Option (List FieldText)) → X ≡ t ∷ ts
-    → None ≡ option_field t (take (deep_len ts) ts) → after_fields done (fields_in X) ≡ whole → None ≡ whole
-fields-stop X t ts done whole e none h =
-    ap (λ field. after_fields done (onto_fields field (fields_in (drop (deep_len ts) ts)))) none ∙ ap (after_fields done) (sym (ap fields_in e ∙ first_field t ts)) ∙ h
+pub fields-stop : (parts : Parts) (X : List Text) (t : Text) (ts : List Text) (done : List FieldText) (whole : Option (List FieldText)) → X ≡ t ∷ ts
+    → None ≡ option_field parts t (take (deep_len ts) ts) → after_fields done (fields_in parts X) ≡ whole → None ≡ whole
+fields-stop parts X t ts done whole e none h =
+    ap (λ field. after_fields done (onto_fields field (fields_in parts (drop (deep_len ts) ts)))) none ∙ ap (after_fields done) (sym (ap (fields_in parts) e ∙ first_field parts t ts)) ∙ h
 
 -- ---- lines as texts
 
@@ -70,8 +71,8 @@ texts-at (x ∷ xs) zero h = refl
 texts-at (x ∷ xs) (suc i) h = let s : suc i + 1 ≡ suc (i + 1) = omega arith in rw s (texts-at xs i (omega arith))
 
 -- where no line is left
-pub fields-end : (ts : List Text) (i : ℕ) (done : List FieldText) (whole : Option (List FieldText)) → length ts ≤ i → after_fields done (fields_in (drop i ts)) ≡ whole → Some done ≡ whole
-fields-end ts i done whole h e = ap Some (sym (append-nil done)) ∙ ap (λ rest. after_fields done (fields_in rest)) (sym (drop_all i ts h)) ∙ e
+pub fields-end : (parts : Parts) (ts : List Text) (i : ℕ) (done : List FieldText) (whole : Option (List FieldText)) → length ts ≤ i → after_fields done (fields_in parts (drop i ts)) ≡ whole → Some done ≡ whole
+fields-end parts ts i done whole h e = ap Some (sym (append-nil done)) ∙ ap (λ rest. after_fields done (fields_in parts rest)) (sym (drop_all i ts h)) ∙ e
 
 -- ---- slices
 

@@ -1,8 +1,9 @@
 -- What a directive is: its kind, argument, options and content, or what is wrong with it (Markup Specification,
 -- 'Directives'; the sections of Directives are in Kind, Judgement and Value).
-use Rattle.std.specs.Prelude.{ℕ, ◌-◌, Bool, true, false, ◌&&◌, nat_lt, List, [], take, drop, length, option_map, Option, Result, Ok, Err, ok_or, if◌then◌else◌}
+use Rattle.std.specs.Prelude.{ℕ, ◌-◌, Bool, ◌&&◌, nat_lt, List, [], take, drop, length, option_map, Option, Result, Ok, Err, ok_or, if◌then◌else◌}
 use Rattle.std.specs.Result.{result_map_both}
-use Rattle.rst_text.specs.Block.{Block, cut}
+use Rattle.rst_settings.specs.declared.Parts.{Parts}
+use Rattle.rst_text.specs.Block.{Block, cut, first_parts}
 use Rattle.rst_markup_directives.specs.Argument.{ArgumentMeaning, given_in, argument_of}
 use Rattle.rst_markup_directives.specs.Call.{called_at, part_of, content_of, is_empty}
 use Rattle.rst_markup_directives.specs.Characters.{Text}
@@ -39,21 +40,21 @@ pub record Read : Type 0 where
   pub content : Content
 
 -- the options that lines are; lines that aren't fields alone are an invalid option block
-abbrev pub directive_options : OptionSet → List Text → Result (List OptionSetting) Wrong
-directive_options options lines = and_then (settings_in options) (ok_or (fields_in lines) option_block)
+abbrev pub directive_options : Parts → OptionSet → List Text → Result (List OptionSetting) Wrong
+directive_options parts options lines = and_then (settings_in options) (ok_or (fields_in parts lines) option_block)
 
 -- a directive by its argument and its options, where what is wrong with an option counts first
 abbrev pub read_parts : Kind → Content → Result ArgumentMeaning Wrong → Result (List OptionSetting) Wrong → Result Read Wrong
 read_parts kind content given choices = and_then (λ options. and_then (λ argument. Ok (record { kind = kind; argument = argument; options = options; content = content })) given) choices
 
 -- a directive by the run of lines that its block of `all` lines begins with, and by where the parts of the block are
-unfoldable pub directive_by_layout : Kind → Part → ℕ → List Text → Layout → Result Read Wrong
-directive_by_layout kind block all run layout =
-    read_parts kind (content_of block layout all) (argument_of kind.argument (take layout.argument run) (part_of block 0 layout.argument)) (directive_options kind.options (drop layout.options run))
+unfoldable pub directive_by_layout : Parts → Kind → Part → ℕ → List Text → Layout → Result Read Wrong
+directive_by_layout parts kind block all run layout =
+    read_parts kind (content_of block layout all) (argument_of kind.argument (take layout.argument run) (part_of block 0 layout.argument)) (directive_options parts kind.options (drop layout.options run))
 
 -- what the block of a directive holds, or the first that is wrong: its options, then its argument
 unfoldable pub read_block : Kind → Bool → Part → Block → Result Read Wrong
-read_block kind late block H = directive_by_layout kind block (length H) (run_in kind late H) (layout_of kind (run_in kind late H) H)
+read_block kind late block H = directive_by_layout (first_parts H) kind block (length H) (run_in kind late H) (layout_of kind (run_in kind late H) H)
 
 -- ---- the directive
 

@@ -3,6 +3,7 @@ use Rattle.std.specs.Prelude.{ℕ, min, Bool, false, not, List, [], ◌∷◌, m
 use Rattle.std.specs.List.{list_any, reduce}
 use Rattle.std.specs.Option.{option_or, option_map_or}
 use Rattle.std.specs.declared.vec.Vec.{Vec}
+use Rattle.rst_settings.specs.declared.Parts.{Parts}
 use Rattle.rst_text.specs.Block.{indentation}
 use Rattle.rst_markup_lines.specs.Field.{field_of}
 use Rattle.rst_markup_lines.specs.TextStart.{begins_with}
@@ -30,8 +31,8 @@ FieldText = Text × Text
 
 -- the field that a line begins, with the indented lines below it: the name between its colons, and the text after its mark
 -- with these lines, their least indentation taken off
-unfoldable pub option_field : Text → List Text → Option FieldText
-option_field t below = option_map (λ mark. (slice_range t mark.name.from mark.name.to, joined_nonempty (drop mark.marker.cut t ∷ map (drop (least_indentation below)) below))) (field_of t)
+unfoldable pub option_field : Parts → Text → List Text → Option FieldText
+option_field parts t below = option_map (λ mark. (slice_range t mark.name.from mark.name.to, joined_nonempty (drop mark.marker.cut t ∷ map (drop (least_indentation below)) below))) (field_of parts t)
 
 -- a line, and the indented lines directly below it
 abbrev pub Group : Type 0
@@ -52,13 +53,13 @@ abbrev pub onto_fields : Option FieldText → Option (List FieldText) → Option
 onto_fields field fields = option_and_then (λ f. option_map (λ fs. f ∷ fs) fields) field
 
 -- the fields that groups are, if each is one
-abbrev pub fields_of : List Group → Option (List FieldText)
-fields_of [] = Some []
-fields_of (g ∷ gs) = onto_fields (option_field g.0 g.1) (fields_of gs)
+abbrev pub fields_of : Parts → List Group → Option (List FieldText)
+fields_of parts [] = Some []
+fields_of parts (g ∷ gs) = onto_fields (option_field parts g.0 g.1) (fields_of parts gs)
 
 -- the fields of lines, if each of their groups is one
-abbrev pub fields_in : List Text → Option (List FieldText)
-fields_in ts = fields_of (groups ts)
+abbrev pub fields_in : Parts → List Text → Option (List FieldText)
+fields_in parts ts = fields_of parts (groups ts)
 
 -- ---- what is wrong with them
 

@@ -1,6 +1,6 @@
 //! Directives as they are called.
 ghost use Rattle.std.specs.Prelude.{◌≡◌, true, ◌+◌, ◌-◌, ◌≤◌, ◌&&◌, length, IfOk};
-ghost use Rattle.rst_markup_blocks.specs.Prelude.{cut, Looked, capped, block_of};
+ghost use Rattle.rst_markup_blocks.specs.Prelude.{cut, first_parts, Looked, capped, block_of};
 ghost use Rattle.rst_markup_blocks.specs.Parts.{IsBlock, IsCall};
 ghost use Rattle.rst_markup_directives.specs.Call as spec;
 ghost use Rattle.rst_markup_directives.specs.Directive as directives;
@@ -17,6 +17,7 @@ use super::layout::layout_of;
 use super::lines::run_of;
 use super::options::{Setting, excerpt, fields_of, settings_of};
 use rst_markup_blocks::{Invocation, LineTest, Part, lines_end};
+use rst_settings::Parts;
 use rst_text::{Looks, View};
 use std::alloc::{AllocError, Global};
 
@@ -104,13 +105,24 @@ fn read(
     let none = late && kind.content == ContentKind::Lines;
     let run = run_of(alloc, none, &lines, looks)?;
     let rest = lines_end(&lines, run.len(), LineTest::Blank, looks);
-    read_run(alloc, kind, block, &run, rest)
+    read_run(alloc, first_parts(&lines), kind, block, &run, rest)
+}
+
+/// The parts of the markup that hold in the first line of a view; none where there is no line.
+fn first_parts(lines: &View<'_>) -> Parts
+    ensures { result ≡ first_parts (block_of lines.now) }
+{
+    if lines.len() == 0 {
+        return Parts::NONE;
+    }
+    lines.parts(0)
 }
 
 /// Reads a block by its first run of lines; `rest` is the place of the first line after it that isn't blank.
 #[tactic(auto, using(crate::proofs::FieldLemmas::texts_take, crate::proofs::FieldLemmas::texts_after), unfolding(crate::specs::Directive::directive_by_layout))]
 fn read_run(
     alloc: Global,
+    parts: Parts,
     kind: Kind,
     block: Part,
     run: &[&str],
@@ -119,16 +131,16 @@ fn read_run(
     requires ordered { block.from ≤ block.to }
     requires run { length run.now ≤ block.to - block.from }
     requires rest { rest ≤ block.to - block.from }
-    ensures { IfOk result (λ reading. directives.reading_in reading ≡ directives.directive_by_layout kind block (block.to - block.from) (texts_of run.now) (layouts.layout_at kind (texts_of run.now) (block.to - block.from) rest)) }
+    ensures { IfOk result (λ reading. directives.reading_in reading ≡ directives.directive_by_layout parts kind block (block.to - block.from) (texts_of run.now) (layouts.layout_at parts kind (texts_of run.now) (block.to - block.from) rest)) }
 {
     let all = block.to - block.from;
-    let layout = layout_of(kind, run, all, rest);
+    let layout = layout_of(parts, kind, run, all, rest);
     let content = Content {
         first: part_of(block, 0, layout.first),
         second: part_of(block, layout.second, all),
     };
     let part = part_of(block, 0, layout.argument);
-    let Some(fields) = fields_of(alloc, &run[layout.options..])? else {
+    let Some(fields) = fields_of(alloc, parts, &run[layout.options..])? else {
         return Ok(Err(Detail::InvalidOptionBlock));
     };
     let options = match settings_of(alloc, kind.options, &fields)? {

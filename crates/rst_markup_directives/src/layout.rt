@@ -5,6 +5,7 @@ ghost use Rattle.rst_markup_directives.specs.Layout as spec;
 
 use super::kind::{ArgumentKind, ContentKind, Kind};
 use rst_markup_lines::field_of;
+use rst_settings::Parts;
 
 /// The parts of a block, by places of its lines: the argument has those before `argument`; the first part of the
 /// content those before `first`; the options those from `options` up to the first blank line; and the second part of
@@ -19,12 +20,12 @@ pub(crate) struct Layout {
 
 /// How many of some lines come before the first that begins a field.
 #[tactic(auto, unfolding(crate::specs::Layout::begins_field))]
-fn before_field(run: &[&str]) -> usize
-    ensures value { result ≡ spec.before_field (texts_of run.now) }
+fn before_field(parts: Parts, run: &[&str]) -> usize
+    ensures value { result ≡ spec.before_field parts (texts_of run.now) }
     ensures within { result ≤ length run.now }
 {
     for (i, line) in run.iter().enumerate() {
-        if field_of(line).is_some() {
+        if field_of(parts, line).is_some() {
             return i;
         }
     }
@@ -34,8 +35,8 @@ fn before_field(run: &[&str]) -> usize
 /// The parts of a block of `all` lines that begins with this run, up to a blank line; `rest` is the place of the first line
 /// after the run that isn't blank.
 #[tactic(auto, unfolding(crate::specs::Layout::layout_at))]
-pub(crate) fn layout_of(kind: Kind, run: &[&str], all: usize, rest: usize) -> Layout
-    ensures value { result ≡ spec.layout_at kind (texts_of run.now) all rest }
+pub(crate) fn layout_of(parts: Parts, kind: Kind, run: &[&str], all: usize, rest: usize) -> Layout
+    ensures value { result ≡ spec.layout_at parts kind (texts_of run.now) all rest }
     ensures argument { result.argument ≤ length run.now }
     ensures options { result.options ≤ length run.now }
     ensures first { length run.now ≤ all → result.first ≤ all }
@@ -43,10 +44,10 @@ pub(crate) fn layout_of(kind: Kind, run: &[&str], all: usize, rest: usize) -> La
 {
     match (kind.content, kind.argument) {
         (ContentKind::Paragraph, _) => content_alone(run, all),
-        (_, ArgumentKind::Absent) => parts_without_argument(run, all, rest),
+        (_, ArgumentKind::Absent) => parts_without_argument(parts, run, all, rest),
         _ => {
             // The argument ends where the options begin.
-            let from = before_field(run);
+            let from = before_field(parts, run);
             Layout {
                 argument: from,
                 first: 0,
@@ -73,13 +74,13 @@ fn content_alone(run: &[&str], all: usize) -> Layout
 
 /// A block without an argument, whose lines before the options are content.
 #[tactic(auto, using(crate::proofs::FieldLemmas::length_texts))]
-fn parts_without_argument(run: &[&str], all: usize, rest: usize) -> Layout
-    ensures value { result ≡ spec.parts_without_argument (texts_of run.now) all rest }
+fn parts_without_argument(parts: Parts, run: &[&str], all: usize, rest: usize) -> Layout
+    ensures value { result ≡ spec.parts_without_argument parts (texts_of run.now) all rest }
     ensures options { result.options ≤ length run.now }
     ensures first { length run.now ≤ all → result.first ≤ all }
     ensures second { rest ≤ all → result.second ≤ all }
 {
-    let from = before_field(run);
+    let from = before_field(parts, run);
     if from == run.len() {
         return content_alone(run, all);
     }

@@ -12,6 +12,7 @@ use super::lines::add_line;
 use super::option::OptionName;
 use super::value::{OptionValue, option_value};
 use rst_markup_lines::{Characters, begins_with, field_of};
+use rst_settings::Parts;
 use rst_text::{characters_of, indentation, skip};
 use std::alloc::{AllocError, Global};
 
@@ -89,8 +90,12 @@ pub(crate) fn excerpt(
 
 /// The fields of some lines, of which none is blank; or none where a line neither begins a field nor is indented below
 /// one.
-pub(crate) fn fields_of(alloc: Global, run: &[&str]) -> Result<Option<Vec<Field>>, AllocError>
-    ensures { IfOk result (λ fields. option_map (λ v. spec.field_texts v.items) fields ≡ spec.fields_in (texts_of run.now)) }
+pub(crate) fn fields_of(
+    alloc: Global,
+    parts: Parts,
+    run: &[&str],
+) -> Result<Option<Vec<Field>>, AllocError>
+    ensures { IfOk result (λ fields. option_map (λ v. spec.field_texts v.items) fields ≡ spec.fields_in parts (texts_of run.now)) }
 {
     let mut fields = Vec::new(alloc);
     let mut i = 0;
@@ -98,7 +103,7 @@ pub(crate) fn fields_of(alloc: Global, run: &[&str]) -> Result<Option<Vec<Field>
         let following = &run[i + 1..];
         let deep = deep_len(following);
         let below = &following[..deep];
-        let Some(mark) = field_of(run[i]) else {
+        let Some(mark) = field_of(parts, run[i]) else {
             return Ok(None);
         };
         let name = excerpt(alloc, run[i], mark.name)?;

@@ -3,6 +3,7 @@
 #![tactic(auto, unfolding(crate::proofs::Computing::rst_markup_directives))]
 
 ghost use Rattle.std.specs.Prelude.{◌≡◌, is_ok, option_map, true, false, Some, None, Ok, Err, codes, ◌∷◌, ◌++◌, [], map, filter, is_some};
+ghost use Rattle.rst_settings.specs.Parts.{all_parts, no_parts};
 ghost use Rattle.rst_text.specs.Written.{block};
 ghost use Rattle.rst_tree.specs.declared.tag.Tag.TheVariants as tag;
 ghost use Rattle.rst_markup_directives.specs.Argument.{language, nothing, title, uri};
@@ -122,10 +123,15 @@ pub fn values()
 
 /// The fields of an option block (Markup Specification, 'Directives').
 pub fn option_blocks()
-    ensures values { fields_in (codes ":a:  b" ∷ codes "    c" ∷ codes "  d" ∷ codes ":e f:" ∷ codes "   g" ∷ codes ":h:" ∷ [])
+    ensures values { fields_in no_parts (codes ":a:  b" ∷ codes "    c" ∷ codes "  d" ∷ codes ":e f:" ∷ codes "   g" ∷ codes ":h:" ∷ [])
         ≡ Some ((codes "a", codes "b\n  c\nd") ∷ (codes "e f", codes "g") ∷ (codes "h", []) ∷ []) }
-    ensures text { fields_in (codes ":a: b" ∷ codes "c" ∷ []) ≡ None }
-    ensures indented_first { fields_in (codes "  b" ∷ codes ":a: b" ∷ []) ≡ None }
+    ensures text { fields_in no_parts (codes ":a: b" ∷ codes "c" ∷ []) ≡ None }
+    ensures indented_first { fields_in no_parts (codes "  b" ∷ codes ":a: b" ∷ []) ≡ None }
+    ensures role { fields_in all_parts (codes ":a: b" ∷ codes ":mod:`c`: d" ∷ []) ≡ None }
+    ensures role_without_the_part { fields_in no_parts (codes ":a: b" ∷ codes ":mod:`c`: d" ∷ [])
+        ≡ Some ((codes "a", codes "b") ∷ (codes "mod:`c`", codes "d") ∷ []) }
+    ensures escaped_colon { map (λ parts. fields_in parts (codes ":a\\:`b`: c" ∷ [])) (no_parts ∷ all_parts ∷ [])
+        ≡ Some ((codes "a\\:`b`", codes "c") ∷ []) ∷ Some ((codes "a\\:`b`", codes "c") ∷ []) ∷ [] }
 {}
 
 /// The argument, options and content of a directive's block (Markup Specification, 'Directives').

@@ -3,7 +3,7 @@ use Rattle.std.proofs.Common.{◌≡◌, ℕ, suc, ◌+◌, ◌≤◌, List, [],
 use Rattle.std.specs.Str.{chars, IsUtf8}
 use Rattle.std.proofs.Math.Utf8.{encode}
 use Rattle.rst_markup_lines.specs.TextStart.{first, begins_with}
-use Rattle.std.proofs.lemmas.Str.{chars_past_char, length-le-encodes, encodes-chars}
+use Rattle.std.proofs.lemmas.Str.{chars_past_char}
 use Rattle.std.proofs.lemmas.Bool.{cond_both, true≢false}
 use Rattle.rst_text.proofs.Indenting.{no_chars}
 use Rattle.rst_text.specs.Block.{indentation}

@@ -6,13 +6,14 @@ use Rattle.rst_text.specs.Characters.{has, is_dark}
 use Rattle.rst_text.specs.Escapes.{is_escaped}
 use Rattle.rst_markup_lines.specs.TextStart.{begins_with, is_loose}
 use Rattle.rst_markup_lines.specs.declared.closing.Closing.{Closing}
-use Rattle.rst_markup_lines.specs.declared.closing.Closing.TheVariants.{Colon, QuotedColon, Bar, SpacedBar}
+use Rattle.rst_markup_lines.specs.declared.closing.Closing.TheVariants.{Colon, QuotedColon, ColonQuote, Bar, SpacedBar}
 
 -- A character closes, after one that isn't white or after no such one, and before this text: a colon with a space or the
--- end after it, a backquote before such a colon, a bar after a character that isn't white, or such a bar before a space.
+-- end after it, a backquote before such a colon, a colon before a backquote, a bar after a character that isn't white, or such a bar before a space.
 unfoldable pub is_closing : Closing → Bool → ℕ → List ℕ → Bool
 is_closing Colon dark c cs = c == 58 && is_loose cs
 is_closing QuotedColon dark c cs = c == 96 && (begins_with 58 cs && is_loose (drop 1 cs))
+is_closing ColonQuote dark c cs = c == 58 && begins_with 96 cs
 is_closing Bar dark c cs = c == 124 && dark
 is_closing SpacedBar dark c cs = c == 124 && (dark && begins_with 32 cs)
 

@@ -14,6 +14,8 @@ pub(crate) enum Closing {
     Colon,
     /// A backquote with such a colon after it.
     QuotedColon,
+    /// A colon with a backquote after it.
+    ColonQuote,
     /// A bar with a character before it that isn't white.
     Bar,
     /// Such a bar with a space after it.
@@ -33,6 +35,7 @@ fn closes(closing: Closing, escaped: bool, dark: bool, c: char, following: &str)
         Closing::QuotedColon => {
             c == '`' && begins_with(':', following) && is_loose(skip(following, 1))
         }
+        Closing::ColonQuote => c == ':' && begins_with('`', following),
         Closing::Bar => c == '|' && dark,
         Closing::SpacedBar => c == '|' && dark && begins_with(' ', following),
     }

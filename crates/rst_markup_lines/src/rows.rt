@@ -2,6 +2,7 @@
 #![tactic(auto, unfolding(crate::proofs::Computing::rst_markup_lines))]
 
 ghost use Rattle.std.specs.Prelude.{◌≡◌, true, false, Some, None, codes, ◌∷◌, ◌++◌, [], map, filter, option_map, is_some};
+ghost use Rattle.rst_settings.specs.Parts.{all_parts, no_parts};
 ghost use Rattle.rst_markup_lines.specs.Adornment.{adornment_of};
 ghost use Rattle.rst_markup_lines.specs.Attribution.{attribution_of};
 ghost use Rattle.rst_markup_lines.specs.Border.{is_grid_border, is_simple_border};
@@ -117,20 +118,29 @@ pub fn next_items()
 
 /// The names of fields (Markup Specification, 'Field Lists').
 pub fn fields()
-    ensures two_words { field_of (codes ":a b:  c")
+    ensures two_words { field_of no_parts (codes ":a b:  c")
         ≡ Some (record { name = record { from = 1; to = 4 }; marker = record { cut = 7; bare = false } }) }
-    ensures alone { field_of (codes ":a:") ≡ Some (record { name = record { from = 1; to = 2 }; marker = record { cut = 3; bare = true } }) }
-    ensures escaped { field_of (codes ":a\\: b: c")
+    ensures alone { field_of no_parts (codes ":a:") ≡ Some (record { name = record { from = 1; to = 2 }; marker = record { cut = 3; bare = true } }) }
+    ensures escaped { field_of no_parts (codes ":a\\: b: c")
         ≡ Some (record { name = record { from = 1; to = 6 }; marker = record { cut = 8; bare = false } }) }
-    ensures escaped_backslash { field_of (codes ":a\\\\: b: c")
+    ensures escaped_backslash { field_of no_parts (codes ":a\\\\: b: c")
         ≡ Some (record { name = record { from = 1; to = 4 }; marker = record { cut = 6; bare = false } }) }
-    ensures colon_inside { field_of (codes ":a:`b`: c")
+    ensures colon_inside { field_of no_parts (codes ":a:`b`: c")
         ≡ Some (record { name = record { from = 1; to = 6 }; marker = record { cut = 8; bare = false } }) }
-    ensures colon_last { field_of (codes ":a:: b") ≡ Some (record { name = record { from = 1; to = 3 }; marker = record { cut = 5; bare = false } }) }
-    ensures first_colon { field_of (codes ":a: b: c")
+    ensures colon_last { field_of no_parts (codes ":a:: b") ≡ Some (record { name = record { from = 1; to = 3 }; marker = record { cut = 5; bare = false } }) }
+    ensures first_colon { field_of no_parts (codes ":a: b: c")
         ≡ Some (record { name = record { from = 1; to = 2 }; marker = record { cut = 4; bare = false } }) }
-    ensures no_names { filter (λ t. is_some (field_of (codes t))) (":: a" ∷ "::" ∷ "::a: b" ∷ ": a: b" ∷ ":a : b: c" ∷ []) ≡ [] }
-    ensures unclosed { filter (λ t. is_some (field_of (codes t))) (":a" ∷ ":a:b" ∷ ":a\\:" ∷ "a: b" ∷ []) ≡ [] }
+    ensures no_names { filter (λ t. is_some (field_of no_parts (codes t))) (":: a" ∷ "::" ∷ "::a: b" ∷ ": a: b" ∷ ":a : b: c" ∷ []) ≡ [] }
+    ensures unclosed { filter (λ t. is_some (field_of no_parts (codes t))) (":a" ∷ ":a:b" ∷ ":a\\:" ∷ "a: b" ∷ []) ≡ [] }
+    ensures role { field_of all_parts (codes ":mod:`email`: mail") ≡ None }
+    ensures role_without_the_part { field_of no_parts (codes ":mod:`email`: mail")
+        ≡ Some (record { name = record { from = 1; to = 12 }; marker = record { cut = 14; bare = false } }) }
+    ensures escaped_colon { map (λ parts. option_map (λ mark. mark.name) (field_of parts (codes ":a\\:`b`: c"))) (no_parts ∷ all_parts ∷ [])
+        ≡ Some (record { from = 1; to = 7 }) ∷ Some (record { from = 1; to = 7 }) ∷ [] }
+    ensures role_in_the_body { field_of all_parts (codes ":a: :b:`c`: d")
+        ≡ Some (record { name = record { from = 1; to = 2 }; marker = record { cut = 4; bare = false } }) }
+    ensures colon_last_with_parts { field_of all_parts (codes ":a:: `b`")
+        ≡ Some (record { name = record { from = 1; to = 3 }; marker = record { cut = 5; bare = false } }) }
 {}
 
 /// The options of an option list's item (Markup Specification, 'Option Lists').

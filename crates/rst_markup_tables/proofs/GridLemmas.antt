@@ -5,7 +5,7 @@ use Rattle.std.proofs.lemmas.Bool.{leb-true, leb-false}
 use Rattle.std.proofs.Math.Nat.{le-min}
 use Rattle.std.specs.List.{list_any}
 use Rattle.std.specs.Str.{all_scalars}
-use Rattle.rst_text.specs.Block.{Line, Block, first_text, first_number}
+use Rattle.rst_text.specs.Block.{Block, first_text, first_number, first_parts, no_line}
 use Rattle.rst_text.specs.Lines.{is_line_end}
 use Rattle.rst_text.specs.Places.{IsLast}
 use Rattle.rst_text.proofs.PlacesLemmas.{IsLast-new, IsLast-one, NoneFrom-nothing}
@@ -24,10 +24,9 @@ use Rattle.rst_markup_tables.specs.declared.places.Place.TheVariants.{Character,
 
 -- ---- a line that was read
 
-pub row_here : (B : Block) (k : ℕ) (r : Row) → k < length B → r ≡ row_of_line (record { number = first_number (drop k B); text = first_text (drop k B) }) → r ≡ get_or (rows_of B) k no_row
+pub row_here : (B : Block) (k : ℕ) (r : Row) → k < length B → r ≡ row_of_line (record { number = first_number (drop k B); text = first_text (drop k B); parts = first_parts (drop k B) }) → r ≡ get_or (rows_of B) k no_row
 row_here B k r below is =
-    let none : Line = record { number = 0; text = [] } in
-    is ∙ ap (λ (X : Block). row_of_line (record { number = first_number X; text = first_text X })) (drop_more B k none below) ∙ sym (get_or-map row_of_line B k none no_row below)
+    is ∙ ap (λ (X : Block). row_of_line (record { number = first_number X; text = first_text X; parts = first_parts X })) (drop_more B k no_line below) ∙ sym (get_or-map row_of_line B k no_line no_row below)
 
 -- the rows of a block's n lines from line i on
 pub rows-taken : (B : Block) (i n : ℕ) → take n (drop i (rows_of B)) ≡ rows_of (take n (drop i B))

@@ -1,22 +1,26 @@
--- Lines whose numbers follow one another.
-use Rattle.std.proofs.Common.{◌≡◌, ℕ, ◌+◌, ◌-◌, ◌<◌, ◌≤◌, [], ◌∷◌, ◌++◌, length, take, drop, get_or, sym, ap, ap₂, ◌∙◌, arith}
+-- Lines whose numbers follow one another, and in which the same parts hold.
+use Rattle.std.proofs.Common.{◌≡◌, ℕ, ◌+◌, ◌-◌, ◌<◌, ◌≤◌, [], ◌∷◌, ◌++◌, length, take, drop, get_or, sym, subst, ap, ap₂, ◌∙◌, arith}
 use borrow.Author.Count.{below_more}
 use Rattle.std.specs.List.{between}
 use Rattle.std.proofs.lemmas.List.Edits.{between_more}
 use Rattle.std.proofs.lemmas.List.{get_or-take, get_or-drop, length-map, length-take}
-use Rattle.rst_text.specs.Block.{Block, first_number}
+use Rattle.rst_text.specs.Block.{Block, first_number, first_parts}
 use Rattle.rst_markup_tables.specs.Places.{Row, Grid, AreNumbered, no_row, row_of_line, rows_of}
 
--- the lines of a block from one place up to another have the numbers of these places
+-- a row has the number of a place of a block, and the parts of its first line
+abbrev pub IsRowAt : Block → ℕ → Row → Type 0
+IsRowAt B k r = (r.number ≡ first_number B + k) × (r.parts ≡ first_parts B)
+
+-- the lines of a block from one place up to another have the numbers of these places, and the parts of the first
 abbrev pub NumbersFrom : Block → ℕ → ℕ → Type 0
-NumbersFrom B low high = (k : ℕ) → low ≤ k → k < high → (get_or (rows_of B) k no_row).number ≡ first_number B + k
+NumbersFrom B low high = (k : ℕ) → low ≤ k → k < high → IsRowAt B k (get_or (rows_of B) k no_row)
 
 -- one line more
-pub line_more : (B : Block) (low k : ℕ) (r : Row) (rs : Grid) → low ≤ k → k < length B → r ≡ get_or (rows_of B) k no_row → r.number ≡ first_number B + k → rs ≡ between low k (rows_of B) → NumbersFrom B low k
+pub line_more : (B : Block) (low k : ℕ) (r : Row) (rs : Grid) → low ≤ k → k < length B → r ≡ get_or (rows_of B) k no_row → IsRowAt B k r → rs ≡ between low k (rows_of B) → NumbersFrom B low k
     → (rs ++ r ∷ [] ≡ between low (k + 1) (rows_of B)) × NumbersFrom B low (k + 1)
-line_more B low k r rs above below is number so all = (
+line_more B low k r rs above below is here so all = (
   ap₂ (λ (l : Grid) x. l ++ x ∷ []) so is ∙ sym (between_more (rows_of B) low k no_row above (omega (arith, length-map B row_of_line))),
-  λ j from less. below_more (λ j. low ≤ j → (get_or (rows_of B) j no_row).number ≡ first_number B + j) k (λ j less from. all j from less) (λ _. ap (λ (r : Row). r.number) (sym is) ∙ number) j less from,
+  λ j from less. below_more (λ j. low ≤ j → IsRowAt B j (get_or (rows_of B) j no_row)) k (λ j less from. all j from less) (λ _. subst (IsRowAt B k) is here) j less from,
 )
 
 pub numbered-lines : (B : Block) (low high : ℕ) → NumbersFrom B low high → AreNumbered (take (high - low) (drop low (rows_of B)))
@@ -24,13 +28,16 @@ numbered-lines B low high all k inside =
     let n : ℕ = high - low in
     let rest : Grid = drop low (rows_of B) in
     let size = length-take n rest in
-    let here = ap (λ (r : Row). r.number) (get_or-take n rest k no_row (omega (arith, inside, size)) ∙ get_or-drop low (rows_of B) k no_row) in
-    let first = ap (λ (r : Row). r.number) (get_or-take n rest 0 no_row (omega (arith, inside, size)) ∙ get_or-drop low (rows_of B) 0 no_row) in
-    omega (arith, here, first, all (low + k) (omega arith) (omega (arith, inside, size)), all (low + 0) (omega arith) (omega (arith, inside, size)))
+    let here = get_or-take n rest k no_row (omega (arith, inside, size)) ∙ get_or-drop low (rows_of B) k no_row in
+    let first = get_or-take n rest 0 no_row (omega (arith, inside, size)) ∙ get_or-drop low (rows_of B) 0 no_row in
+    let row = all (low + k) (omega arith) (omega (arith, inside, size)) in
+    let top = all (low + 0) (omega arith) (omega (arith, inside, size)) in
+    (omega (arith, ap (λ (r : Row). r.number) here, ap (λ (r : Row). r.number) first, row.0, top.0), ap (λ (r : Row). r.parts) here ∙ row.1 ∙ sym (ap (λ (r : Row). r.parts) first ∙ top.1))
 
 pub numbered-take : (n : ℕ) (G : Grid) → AreNumbered G → AreNumbered (take n G)
 numbered-take n G all k inside =
     let size = length-take n G in
-    let here = ap (λ (r : Row). r.number) (get_or-take n G k no_row (omega (arith, inside, size))) in
-    let first = ap (λ (r : Row). r.number) (get_or-take n G 0 no_row (omega (arith, inside, size))) in
-    omega (arith, here, first, all k (omega (arith, inside, size)))
+    let here = get_or-take n G k no_row (omega (arith, inside, size)) in
+    let first = get_or-take n G 0 no_row (omega (arith, inside, size)) in
+    let row = all k (omega (arith, inside, size)) in
+    (omega (arith, ap (λ (r : Row). r.number) here, ap (λ (r : Row). r.number) first, row.0), ap (λ (r : Row). r.parts) here ∙ row.1 ∙ sym (ap (λ (r : Row). r.parts) first))

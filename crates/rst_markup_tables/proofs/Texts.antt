@@ -6,7 +6,8 @@ use Rattle.std.proofs.lemmas.List.{drop_all, get_or-map, length-map}
 use Rattle.std.proofs.lemmas.List.FromFn.{fill_by_all, length-map-range_with_len, get_or-map-range_with_len}
 use lib.Seq.{take-nil}
 use Rattle.std.proofs.Math.Seq.{drop-nil}
-use Rattle.rst_text.specs.Block.{Line, Block, is_blank, shorten}
+use Rattle.rst_settings.specs.declared.Parts.{Parts}
+use Rattle.rst_text.specs.Block.{Line, Block, is_blank, no_line, shorten}
 use Rattle.rst_text.specs.Extent.{indentations, least_indent}
 use Rattle.rst_text.specs.Lines.{is_line_text, are_lines}
 use Rattle.rst_text.proofs.LineTexts.{is_line_text-drop}
@@ -45,27 +46,24 @@ placed_text-is f low (suc n) k above below =
     grind (arith, texts-more f low (range_with_len (low + 1) n), later, placed_text-before f (low + 1) n k)
 
 -- a line for each text, numbered from `first` on
-abbrev pub line_at : (ℕ → List ℕ) → ℕ → ℕ → Line
-line_at f first k = record { number = first + k; text = f k }
+abbrev pub line_at : Parts → (ℕ → List ℕ) → ℕ → ℕ → Line
+line_at parts f first k = record { number = first + k; text = f k; parts = parts }
 
-abbrev pub no_line : Line
-no_line = record { number = 0; text = [] }
-
-spread-is : (f : ℕ → List ℕ) (first n : ℕ) → spread first n (texts_by f (range_with_len 0 n)) ≡ map (line_at f first) (range_with_len 0 n)
-spread-is f first n =
-    let made = line_at (placed_text (texts_by f (range_with_len 0 n))) first in
-    fill_by_all (line_at f first) (map made (range_with_len 0 n)) n no_line (length-map-range_with_len made 0 n)
-    (λ k below. get_or-map-range_with_len made 0 n k k no_line below (omega arith) ∙ ap (λ t. let l : Line = record { number = first + k; text = t } in l) (placed_text-is f 0 n k (omega arith) (omega (arith, below))))
+spread-is : (parts : Parts) (f : ℕ → List ℕ) (first n : ℕ) → spread parts first n (texts_by f (range_with_len 0 n)) ≡ map (line_at parts f first) (range_with_len 0 n)
+spread-is parts f first n =
+    let made = line_at parts (placed_text (texts_by f (range_with_len 0 n))) first in
+    fill_by_all (line_at parts f first) (map made (range_with_len 0 n)) n no_line (length-map-range_with_len made 0 n)
+    (λ k below. get_or-map-range_with_len made 0 n k k no_line below (omega arith) ∙ ap (λ t. let l : Line = record { number = first + k; text = t; parts = parts } in l) (placed_text-is f 0 n k (omega arith) (omega (arith, below))))
 
 -- ---- their indentation
 
-indentations-texts : (f : ℕ → List ℕ) (first : ℕ) (js : List ℕ) → indentations (map (line_at f first) js) ≡ indentations (as_lines (texts_by f js))
-indentations-texts f first [] = refl
-indentations-texts f first (j ∷ js) = grind (arith, texts-more f j js, indentations-texts f first js)
+indentations-texts : (parts : Parts) (f : ℕ → List ℕ) (first : ℕ) (js : List ℕ) → indentations (map (line_at parts f first) js) ≡ indentations (as_lines (texts_by f js))
+indentations-texts parts f first [] = refl
+indentations-texts parts f first (j ∷ js) = grind (arith, texts-more f j js, indentations-texts parts f first js)
 
-least-is : (f : ℕ → List ℕ) (first : ℕ) (js : List ℕ) → least_indent (as_lines (texts_by f js)) ≡ least_indent (map (line_at f first) js)
+least-is : (parts : Parts) (f : ℕ → List ℕ) (first : ℕ) (js : List ℕ) → least_indent (as_lines (texts_by f js)) ≡ least_indent (map (line_at parts f first) js)
 unfolding least_indent
-least-is f first js = ap (λ ns. unwrap_or (reduce min ns) 0) (sym (indentations-texts f first js))
+least-is parts f first js = ap (λ ns. unwrap_or (reduce min ns) 0) (sym (indentations-texts parts f first js))
 
 -- ---- texts without their first characters
 
@@ -76,12 +74,12 @@ placed_text-drop : (n : ℕ) (ts : List (ℕ × List ℕ)) (k : ℕ) → placed_
 placed_text-drop n [] k = sym (drop-nil n)
 placed_text-drop n (t ∷ ts) k = grind (arith, placed_text-drop n ts k)
 
-spread-drop : (first count n : ℕ) (ts : List (ℕ × List ℕ)) → spread first count (drop_each n ts) ≡ map (shorten n) (spread first count ts)
-spread-drop first count n ts = by (range_with_len 0 count)
+spread-drop : (parts : Parts) (first count n : ℕ) (ts : List (ℕ × List ℕ)) → spread parts first count (drop_each n ts) ≡ map (shorten n) (spread parts first count ts)
+spread-drop parts first count n ts = by (range_with_len 0 count)
   where
-    by : (ks : List ℕ) → map (λ k. let l : Line = record { number = first + k; text = placed_text (drop_each n ts) k } in l) ks ≡ map (shorten n) (map (λ k. let l : Line = record { number = first + k; text = placed_text ts k } in l) ks)
+    by : (ks : List ℕ) → map (λ k. let l : Line = record { number = first + k; text = placed_text (drop_each n ts) k; parts = parts } in l) ks ≡ map (shorten n) (map (λ k. let l : Line = record { number = first + k; text = placed_text ts k; parts = parts } in l) ks)
     by [] = refl
-    by (k ∷ ks) = ap₂ (λ t ls. (let l : Line = record { number = first + k; text = t } in l) ∷ ls) (placed_text-drop n ts k) (by ks)
+    by (k ∷ ks) = ap₂ (λ t ls. (let l : Line = record { number = first + k; text = t; parts = parts } in l) ∷ ls) (placed_text-drop n ts k) (by ks)
 
 -- ---- texts that can occur in lines
 
@@ -106,20 +104,22 @@ cell_text-none left (Some right) G k e = rw (drop_all left (row_at G k) (ltb-fal
 texts-all : (left : ℕ) (right : Option ℕ) (G : Grid) → texts_among left right G (reaching G left) ≡ texts_by (cell_text left right G) (range_with_len 0 (length G))
 texts-all left right G = texts-filter (cell_text left right G) (reaches G left) (range_with_len 0 (length G)) (cell_text-none left right G)
 
-lines-are : (left : ℕ) (right : Option ℕ) (G : Grid) (first : ℕ) → AreNumbered G → first ≡ (get_or G 0 no_row).number → map (cell_line left right) G ≡ map (line_at (cell_text left right G) first) (range_with_len 0 (length G))
-lines-are left right G first numbered is =
-    fill_by_all (line_at (cell_text left right G) first) (map (cell_line left right) G) (length G) no_line (length-map G (cell_line left right))
-    (λ k below. get_or-map (cell_line left right) G k no_row no_line below ∙ ap (λ n. let l : Line = record { number = n; text = cell_text left right G k } in l) (numbered k below ∙ ap (λ n. n + k) (sym is)))
+lines-are : (left : ℕ) (right : Option ℕ) (G : Grid) (parts : Parts) (first : ℕ) → AreNumbered G → parts ≡ (get_or G 0 no_row).parts → first ≡ (get_or G 0 no_row).number
+    → map (cell_line left right) G ≡ map (line_at parts (cell_text left right G) first) (range_with_len 0 (length G))
+lines-are left right G parts first numbered same is =
+    fill_by_all (line_at parts (cell_text left right G) first) (map (cell_line left right) G) (length G) no_line (length-map G (cell_line left right))
+    (λ k below. get_or-map (cell_line left right) G k no_row no_line below
+    ∙ ap₂ (λ n held. let l : Line = record { number = n; text = cell_text left right G k; parts = held } in l) ((numbered k below).0 ∙ ap (λ n. n + k) (sym is)) ((numbered k below).1 ∙ sym same))
 
-pub cell_block-is : (left : ℕ) (right : Option ℕ) (G : Grid) (first least : ℕ) (texts short : List (ℕ × List ℕ)) → AreNumbered G → first ≡ (get_or G 0 no_row).number → texts ≡ texts_among left right G (reaching G left)
-    → least ≡ least_indent (as_lines texts) → short ≡ drop_each least texts → spread first (length G) short ≡ cell_block left right G
-cell_block-is left right G first least texts short numbered is texts_are least_is short_is =
+pub cell_block-is : (left : ℕ) (right : Option ℕ) (G : Grid) (parts : Parts) (first least : ℕ) (texts short : List (ℕ × List ℕ)) → AreNumbered G → parts ≡ (get_or G 0 no_row).parts → first ≡ (get_or G 0 no_row).number
+    → texts ≡ texts_among left right G (reaching G left) → least ≡ least_indent (as_lines texts) → short ≡ drop_each least texts → spread parts first (length G) short ≡ cell_block left right G
+cell_block-is left right G parts first least texts short numbered same is texts_are least_is short_is =
     let f : ℕ → List ℕ = cell_text left right G in
     let ks : List ℕ = range_with_len 0 (length G) in
     let all : texts ≡ texts_by f ks = texts_are ∙ texts-all left right G in
-    let indent : least ≡ least_indent (map (line_at f first) ks) = least_is ∙ ap (λ ts. least_indent (as_lines ts)) all ∙ least-is f first ks in
-    ap (spread first (length G)) short_is ∙ spread-drop first (length G) least texts ∙ ap₂ (λ m ls. map (shorten m) ls) indent (ap (spread first (length G)) all ∙ spread-is f first (length G))
-    ∙ ap (λ (ls : Block). map (shorten (least_indent ls)) ls) (sym (lines-are left right G first numbered is))
+    let indent : least ≡ least_indent (map (line_at parts f first) ks) = least_is ∙ ap (λ ts. least_indent (as_lines ts)) all ∙ least-is parts f first ks in
+    ap (spread parts first (length G)) short_is ∙ spread-drop parts first (length G) least texts ∙ ap₂ (λ m ls. map (shorten m) ls) indent (ap (spread parts first (length G)) all ∙ spread-is parts f first (length G))
+    ∙ ap (λ (ls : Block). map (shorten (least_indent ls)) ls) (sym (lines-are left right G parts first numbered same is))
 
 pub cell-placed : (left : ℕ) (right : Option ℕ) (G : Grid) (least : ℕ) (texts short : List (ℕ × List ℕ)) → texts ≡ texts_among left right G (reaching G left) → are_lines (as_lines texts) ≡ true
     → short ≡ drop_each least texts → ArePlaced 0 (length G) short

@@ -2,6 +2,7 @@
 use Rattle.std.specs.Prelude.{◌≡◌, ℕ, ◌-◌, Bool, true, false, not, nat_lt, List, [], ◌∷◌, take, drop, map, filter, get_or, length, Option, Some, None}
 use Rattle.std.specs.List.{list_any, range_with_len}
 use Rattle.std.specs.Str.{all_scalars, drop_trailing_whitespace}
+use Rattle.rst_settings.specs.Parts.{no_parts}
 use Rattle.rst_text.specs.Block.{Line, Block, is_blank, shorten}
 use Rattle.rst_text.specs.Extent.{least_indent}
 use Rattle.rst_text.specs.Lines.{is_line_end}
@@ -27,7 +28,7 @@ cut_places left None row = drop left row
 
 -- a line of a cell: a row cut at the cell's columns, without the white characters at its end
 abbrev pub cell_line : ℕ → Option ℕ → Row → Line
-cell_line left right row = record { number = row.number; text = drop_trailing_whitespace (characters (cut_places left right row.places)) }
+cell_line left right row = record { number = row.number; text = drop_trailing_whitespace (characters (cut_places left right row.places)); parts = row.parts }
 
 -- the lines of a cell, without the least indentation of those that aren't blank
 abbrev pub cell_block : ℕ → Option ℕ → Grid → Block
@@ -51,4 +52,4 @@ reaching lines n = filter (reaches lines n) (range_with_len 0 (length lines))
 
 -- texts with their places as lines that have these places as numbers
 abbrev pub as_lines : List (ℕ × List ℕ) → Block
-as_lines texts = map (λ (t : ℕ × List ℕ). record { number = t.0; text = t.1 }) texts
+as_lines texts = map (λ (t : ℕ × List ℕ). record { number = t.0; text = t.1; parts = no_parts }) texts

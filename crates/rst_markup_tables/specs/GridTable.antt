@@ -56,7 +56,7 @@ dash p = if mark_of p == 61 then Character 45 else p
 
 -- a row with each `=` as a `-`
 abbrev pub dashed : Row → Row
-dashed r = record { number = r.number; places = map dash r.places }
+dashed r = record { number = r.number; places = map dash r.places; parts = r.parts }
 
 -- the rows with the rule between head and body as one of `-`, if there is one
 abbrev pub with_dashes : Grid → Option ℕ → Grid

@@ -2,6 +2,8 @@
 use Rattle.std.specs.Prelude.{◌≡◌, ℕ, ◌+◌, ◌<◌, Bool, false, ◌||◌, ◌==◌, List, [], ◌∷◌, map, get_or, length, unwrap_or, if◌then◌else◌}
 use Rattle.std.specs.List.{list_all}
 use Rattle.unicode_width.specs.Width.{char_width}
+use Rattle.rst_settings.specs.Parts.{no_parts}
+use Rattle.rst_settings.specs.declared.Parts.{Parts}
 use Rattle.rst_text.specs.Block.{Line, Block}
 use Rattle.rst_markup_tables.specs.declared.places.Place.{Place}
 use Rattle.rst_markup_tables.specs.declared.places.Place.TheVariants.{Character, Second}
@@ -24,10 +26,11 @@ mark_of Second = 0
 abbrev pub consists_of : ℕ → ℕ → List Place → Bool
 consists_of one other row = list_all (λ p. mark_of p == one || mark_of p == other) row
 
--- a line of a table: its number in the document, and its places
+-- a line of a table: its number in the document, its places, and the parts of the markup that hold in it
 pub record Row : Type 0 where
   pub number : ℕ
   pub places : List Place
+  pub parts : Parts
 
 -- the lines of a table, from the top
 abbrev pub Grid : Type 0
@@ -35,7 +38,7 @@ Grid = List Row
 
 -- a line as a row of places
 abbrev pub row_of_line : Line → Row
-row_of_line l = record { number = l.number; places = places_of l.text }
+row_of_line l = record { number = l.number; places = places_of l.text; parts = l.parts }
 
 -- the lines of a block as rows of places
 abbrev pub rows_of : Block → Grid
@@ -43,11 +46,11 @@ rows_of B = map row_of_line B
 
 -- a row without places
 abbrev pub no_row : Row
-no_row = record { number = 0; places = [] }
+no_row = record { number = 0; places = []; parts = no_parts }
 
--- the numbers of the rows follow one another
+-- the numbers of the rows follow one another, and the same parts of the markup hold in all rows
 abbrev pub AreNumbered : Grid → Type 0
-AreNumbered G = (i : ℕ) → i < length G → (get_or G i no_row).number ≡ (get_or G 0 no_row).number + i
+AreNumbered G = (i : ℕ) → i < length G → ((get_or G i no_row).number ≡ (get_or G 0 no_row).number + i) × ((get_or G i no_row).parts ≡ (get_or G 0 no_row).parts)
 
 -- the places of a row; past the end a row is empty
 abbrev pub row_at : Grid → ℕ → List Place

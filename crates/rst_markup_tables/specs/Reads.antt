@@ -1,6 +1,7 @@
 -- Tables that are written out, for worked examples. No rule of markup.
 use Prim.Native.String.{String}
 use Rattle.std.specs.Prelude.{◌≡◌, ℕ, ◌+◌, List, [], ◌∷◌, codes}
+use Rattle.rst_settings.specs.Parts.{no_parts}
 use Rattle.rst_text.specs.Block.{Block}
 use Rattle.rst_text.specs.Written.{block}
 use Rattle.rst_markup_tables.specs.GridTable.{malformed}
@@ -13,7 +14,7 @@ use Rattle.rst_markup_tables.specs.declared.results.TableResult.TheVariants.{Tab
 -- lines with numbers from n on
 abbrev pub numbered : ℕ → List String → Block
 numbered n [] = []
-numbered n (text ∷ texts) = record { number = n; text = codes text } ∷ numbered (n + 1) texts
+numbered n (text ∷ texts) = record { number = n; text = codes text; parts = no_parts } ∷ numbered (n + 1) texts
 
 -- a cell that takes `rows` more rows and `columns` more columns, with its lines from line n on
 abbrev pub cell : ℕ → ℕ → ℕ → List String → Cell

@@ -12,6 +12,7 @@ use super::Result;
 use super::places::{Place, TableLine, row_at};
 use super::results::CellLines;
 use rst_markup_lines::is_blank;
+use rst_settings::Parts;
 use rst_text::{indentation, skip};
 use std::alloc::Global;
 
@@ -141,9 +142,14 @@ pub(crate) fn cell_lines(
         Some(last) => last.number() - (count - 1),
         None => 0,
     };
+    let parts = match lines.first() {
+        Some(line) => line.parts(),
+        None => Parts::NONE,
+    };
     Ok(CellLines {
         first,
         count,
         texts,
+        parts,
     })
 }

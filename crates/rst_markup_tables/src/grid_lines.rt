@@ -148,7 +148,12 @@ pub(crate) fn put_dashes(
     if let Some(k) = head {
         let places = dashes(alloc, lines[k].places())?;
         let number = lines[k].number();
-        let line = TableLine { number, places };
+        let parts = lines[k].parts();
+        let line = TableLine {
+            number,
+            places,
+            parts,
+        };
         lines[k] = line;
     }
     Ok(())

@@ -2,9 +2,10 @@
 ghost use Rattle.std.specs.Prelude.{◌≡◌, ◌+◌, ◌<◌, get_or, length, drop, IfOk, chars};
 ghost use Rattle.rst_markup_tables.specs.Cells.{AreOfLine};
 ghost use Rattle.rst_markup_tables.specs.Places.{consists_of, mark_of, places_of, mark_at, place, row_at, width, no_row, rows_of};
-ghost use Rattle.rst_markup_blocks.specs.Prelude.{first_number, first_text, block_of};
+ghost use Rattle.rst_markup_blocks.specs.Prelude.{first_number, first_parts, first_text, block_of};
 
 use super::Result;
+use rst_settings::Parts;
 use rst_text::{View, characters_of};
 use std::alloc::Global;
 use std::marker::Model;
@@ -29,11 +30,12 @@ impl Place {
     }
 }
 
-/// A line of a table: its number and its places.
+/// A line of a table: its number, its places, and the parts of the markup that hold in it.
 #[derive(Drop)]
 pub(crate) struct TableLine {
     pub(crate) number: usize,
     pub(crate) places: Vec<Place>,
+    pub(crate) parts: Parts,
 }
 
 impl Model for TableLine {
@@ -41,7 +43,7 @@ impl Model for TableLine {
 
     ghost Value = { Row };
 
-    ghost view = { λ l. record { number = l.number; places = l.places.items } };
+    ghost view = { λ l. record { number = l.number; places = l.places.items; parts = l.parts } };
 
     ghost use Rattle.rst_markup_tables.specs.Cells.{AreOfLine};
 
@@ -56,6 +58,13 @@ impl TableLine {
         ensures { result ≡ self.now.number }
     {
         self.number
+    }
+
+    /// The parts of the markup that hold in the line.
+    pub(crate) fn parts(&self) -> Parts
+        ensures { result ≡ self.now.parts }
+    {
+        self.parts
     }
 
     /// The line's places.
@@ -99,10 +108,16 @@ pub(crate) fn line_of(alloc: Global, view: &View<'_>, k: usize, text: &str) -> R
     requires text { chars text.now ≡ first_text (drop k (block_of view.now)) }
     ensures line { IfOk result (λ line. line ≡ get_or (rows_of (block_of view.now)) k no_row) }
     ensures number { IfOk result (λ line. line.number ≡ first_number (block_of view.now) + k) }
+    ensures parts { IfOk result (λ line. line.parts ≡ first_parts (block_of view.now)) }
 {
     let number = view.number(k);
     let places = places_of(alloc, text)?;
-    Ok(TableLine { number, places })
+    let parts = view.parts(k);
+    Ok(TableLine {
+        number,
+        places,
+        parts,
+    })
 }
 
 /// The character that begins at a place of a row, or `'\0'`.

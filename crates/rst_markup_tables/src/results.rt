@@ -1,18 +1,20 @@
 //! What a table is, or what is wrong with it.
 ghost use Rattle.std.specs.Prelude.{◌≡◌, IfOk};
 
+use rst_settings::Parts;
 use rst_text::Lines;
 use std::alloc::{AllocError, Global};
 use std::marker::Model;
 
-/// The lines of a cell: the number of the first in the document, how many there are, and the texts of those that aren't
-/// blank, by their places from 0 on. In a text no character ends a line, and no white one is the last. Contracts see the lines
-/// as a block.
+/// The lines of a cell: the number of the first in the document, how many there are, the texts of those that aren't
+/// blank, by their places from 0 on, and the parts that hold in all of them. In a text no character ends a line, and no white
+/// one is the last. Contracts see the lines as a block.
 #[derive(Debug, Drop)]
 pub struct CellLines {
     pub(crate) first: usize,
     pub(crate) count: usize,
     pub(crate) texts: Vec<(usize, String)>,
+    pub(crate) parts: Parts,
 }
 
 impl Model for CellLines {
@@ -22,7 +24,7 @@ impl Model for CellLines {
 
     ghost use Rattle.rst_text.specs.Source.{spread, texts_with};
 
-    ghost view = { λ l. spread l.first l.count (texts_with l.texts.items) };
+    ghost view = { λ l. spread l.parts l.first l.count (texts_with l.texts.items) };
 
     ghost use Rattle.std.specs.Prelude.{◌+◌, ◌^◌, ◌<◌, ◌≤◌};
     ghost use Rattle.rst_text.specs.Source.{ArePlaced};
@@ -37,7 +39,13 @@ impl CellLines {
     pub fn into_lines(self, alloc: Global) -> Result<Lines, AllocError>
         ensures { IfOk result (λ lines. lines ≡ self) }
     {
-        Lines::numbered(alloc, self.first, self.count, self.texts.as_slice())
+        Lines::numbered(
+            alloc,
+            self.parts,
+            self.first,
+            self.count,
+            self.texts.as_slice(),
+        )
     }
 }
 

@@ -2,6 +2,7 @@
 #![tactic(auto)]
 
 ghost use Rattle.std.specs.Prelude.{◌≡◌, ◌≤◌, true};
+ghost use Rattle.rst_settings.specs.Parts.{no_parts};
 ghost use Rattle.rst_settings.specs.Threshold.{threshold_number, is_reached};
 ghost use Rattle.rst_settings.specs.declared.Threshold.TheVariants.{Warning, Severe, Never};
 
@@ -39,6 +40,20 @@ impl Threshold {
     }
 }
 
+/// Parts of the markup that hold only where they are asked for.
+#[derive(Clone, Copy, Debug, PartialEq, Eq)]
+pub struct Parts {
+    /// The name of a field holds no unescaped colon directly before a backquote: there, a role ends.
+    pub marks: bool,
+}
+
+impl Parts {
+    /// No part is asked for.
+    pub const NONE: Parts = Parts { marks: false };
+    /// Every part is asked for.
+    pub const ALL: Parts = Parts { marks: true };
+}
+
 /// The settings of a run (Configuration, 'General').
 #[derive(Clone, Copy, Debug, PartialEq, Eq)]
 pub struct Settings {
@@ -56,6 +71,8 @@ pub struct Settings {
     pub tab: u8,
     /// The most characters that a line may have.
     pub limit: usize,
+    /// The parts of the markup that are asked for.
+    pub parts: Parts,
     pub ghost tab_from: { 1 ≤ tab },
     pub ghost tab_to: { tab ≤ 99 },
 }
@@ -63,11 +80,12 @@ pub struct Settings {
 impl Settings {
     /// The settings of a run with no options: WARNINGs and above are reported, a SEVERE message halts, the status gives
     /// no level, titles and bibliographic fields are looked for, tabs are 8 columns wide, lines have at most 10,000
-    /// characters.
+    /// characters, and no part of the markup is asked for.
     pub fn usual() -> Settings
         ensures levels { (result.report ≡ Warning) × (result.halt ≡ Severe) × (result.exit ≡ Never) }
         ensures transforms { (result.title ≡ true) × (result.info ≡ true) }
         ensures lines { (result.tab ≡ 8) × (result.limit ≡ 10000) }
+        ensures parts { result.parts ≡ no_parts }
     {
         Settings {
             report: Threshold::Warning,
@@ -77,6 +95,7 @@ impl Settings {
             info: true,
             tab: 8,
             limit: 10_000,
+            parts: Parts::NONE,
         }
     }
 }

@@ -7,7 +7,7 @@ use Rattle.rst_text.specs.Block.{Line, Block, each_cut, cut, shorten, shorten_al
 
 -- both cuts of one line
 shorten-shorten : (a b : ℕ) (l : Line) → shorten b (shorten a l) ≡ shorten (a + b) l
-shorten-shorten a b l = ap (λ (t : List ℕ). let x : Line = record { number = l.number; text = t } in x) (drop-drop b a l.text)
+shorten-shorten a b l = ap (λ (t : List ℕ). let x : Line = record { number = l.number; text = t; parts = l.parts } in x) (drop-drop b a l.text)
 
 map-shorten : (a b : ℕ) (B : Block) → map (shorten b) (map (shorten a) B) ≡ map (shorten (a + b)) B
 map-shorten a b [] = refl

@@ -8,7 +8,7 @@ use Rattle.std.specs.List.{list_all}
 use Rattle.std.specs.Str.{chars, IsUtf8, is_utf8, IsCharBoundary}
 use Rattle.std.proofs.Math.Utf8.{scalar, scalars, encode, encodes}
 use Rattle.std.proofs.lemmas.Str.{chars-encodes, encodes-chars, scalars-chars, encode_ascii, chars_from_encodes, IsCharBoundary-from_drop, IsCharBoundary-end, IsUtf8-from_is_utf8, is_utf8-from_IsUtf8, IsUtf8-take, chars-append, chars-nil}
-use Rattle.rst_text.specs.Block.{Line, Block, each_cut, shorten_all, cut, shorten, first_text, first_number, indentation, is_blank}
+use Rattle.rst_text.specs.Block.{Line, Block, no_line, each_cut, shorten_all, cut, shorten, first_text, first_number, first_parts, indentation, is_blank}
 use Rattle.rst_text.specs.ViewBlock.{block_of, without_bytes, byte_cut}
 use Rattle.rst_text.specs.MayCut.{bytes_after, may_cut_at, is_indented, is_text, are_texts}
 use Rattle.rst_text.specs.declared.view.View.{View}
@@ -49,9 +49,9 @@ may_part f r i m xs h =
     ap (list_all is_utf8) (sym (ap (take m) (drop-each_cut bytes_after f r i xs) ∙ take-each_cut bytes_after (cond (eqb i 0) f r) r m (drop i xs)))
     ∙ all-between is_utf8 i m (each_cut bytes_after f r xs) h
 
-first_line : (X : Block) (l : Line) → take 1 X ≡ l ∷ [] → (first_text X ≡ l.text) × (first_number X ≡ l.number)
-first_line [] l e = (ap first_text e, ap first_number e)
-first_line (x ∷ xs) l e = (ap first_text e, ap first_number e)
+first_line : (X : Block) (l : Line) → take 1 X ≡ l ∷ [] → (first_text X ≡ l.text) × (first_number X ≡ l.number) × (first_parts X ≡ l.parts)
+first_line [] l e = (ap first_text e, ap first_number e, ap first_parts e)
+first_line (x ∷ xs) l e = (ap first_text e, ap first_number e, ap first_parts e)
 
 -- line i of a view is one of the text's, and may be cut
 line_in_view : (v : View) (i : ℕ) → i < length (block_of v)
@@ -61,9 +61,8 @@ unfolding block_of
 line_in_view v i h =
     let cut : ℕ = cond (eqb i 0) v.first v.rest in
     let lines : Block = v.lines.now in
-    let none : Line = record { number = 0; text = [] } in
-    let l : Line = get_or lines (v.from + i) none in
-    let here : take 1 (drop (v.from + i) lines) ≡ l ∷ [] = ap (take 1) (drop_more lines (v.from + i) none (in_view v i h)) in
+    let l : Line = get_or lines (v.from + i) no_line in
+    let here : take 1 (drop (v.from + i) lines) ≡ l ∷ [] = ap (take 1) (drop_more lines (v.from + i) no_line (in_view v i h)) in
     let same : take 1 (drop i (kept v)) ≡ l ∷ [] = take_of i 1 (v.to - v.from) (drop v.from lines) (omega (arith, length-block_of v)) ∙ ap (take 1) (drop-drop i v.from lines) ∙ here in
     let may : list_all is_utf8 (each_cut bytes_after cut v.rest (l ∷ [])) ≡ true = subst (λ (B : Block). may_cut_at cut v.rest B ≡ true) same (may_part v.first v.rest i 1 (kept v) v.may_cut) in
     let cut_is = ap (take 1) (drop-each_cut without_bytes v.first v.rest i (kept v)) ∙ take-each_cut without_bytes cut v.rest 1 (drop i (kept v)) ∙ ap (each_cut without_bytes cut v.rest) same in
@@ -82,6 +81,9 @@ empty_in_view v i h none =
 
 pub number_in_view : (v : View) (i : ℕ) → i < length (block_of v) → first_number (drop i (block_of v)) ≡ first_number (drop (v.from + i) v.lines.now)
 number_in_view v i h = let x = line_in_view v i h in (first_line _ _ x.2).1 ∙ sym (first_line _ _ x.1).1
+
+pub parts_in_view : (v : View) (i : ℕ) → i < length (block_of v) → first_parts (drop i (block_of v)) ≡ first_parts (drop (v.from + i) v.lines.now)
+parts_in_view v i h = let x = line_in_view v i h in (first_line _ _ x.2).2 ∙ sym (first_line _ _ x.1).2
 
 pub utf8_in_view : (v : View) (i : ℕ) → i < length (block_of v) → IsUtf8 (drop (cond (eqb i 0) v.first v.rest) (encodes (first_text (drop (v.from + i) v.lines.now))))
 utf8_in_view v i h =
@@ -142,7 +144,7 @@ drop_most a b t h =
 
 -- a line with other characters
 abbrev with_text : Line → List ℕ → Line
-with_text l cs = record { number = l.number; text = cs }
+with_text l cs = record { number = l.number; text = cs; parts = l.parts }
 
 rest_lines : (a r : ℕ) (xs : Block) → are_texts xs ≡ true → list_all is_utf8 (map (bytes_after a) xs) ≡ true → is_indented r (map (without_bytes a) xs) ≡ true
     → (list_all is_utf8 (map (bytes_after (min (a + r) (2 ^ 64 - 1))) xs) ≡ true) × (map (shorten r) (map (without_bytes a) xs) ≡ map (without_bytes (min (a + r) (2 ^ 64 - 1))) xs)

@@ -3,7 +3,7 @@ use Rattle.std.proofs.Common.{◌≡◌, ℕ, zero, suc, ◌+◌, ◌-◌, ◌<�
 use Rattle.std.specs.Prelude.{unwrap_or}
 use Rattle.std.proofs.lemmas.Bool.{cases_lt, le-leb, lt-leb, lt-ltb, le-ltb}
 use Rattle.std.proofs.lemmas.List.{drop_all, drop-drop, drop_more, nil_from_length}
-use Rattle.rst_text.specs.Block.{Line, Block, indentation, is_blank, first_text}
+use Rattle.rst_text.specs.Block.{Line, Block, no_line, indentation, is_blank, first_text}
 use Rattle.rst_text.specs.Extent.{extent, past_blank, least_indent, extent_of}
 use Rattle.rst_text.proofs.Least.{lower, least_from, least_from-all}
 use Rattle.rst_text.specs.Kept.{IsEmptyRun}
@@ -55,7 +55,7 @@ blank_at end i B h before here = elim (cases_lt end i) [
 
 -- the line at a place
 abbrev line_at : Block → ℕ → Line
-line_at B i = get_or B i (record { number = 0; text = [] })
+line_at B i = get_or B i no_line
 
 line_is : (B : Block) (i : ℕ) → i < length B → drop i B ≡ line_at B i ∷ drop (i + 1) B
 line_is B i h = drop_more B i _ h

@@ -5,6 +5,7 @@ use Rattle.std.specs.Char.{is_whitespace}
 use Rattle.std.specs.List.{list_any}
 use Rattle.std.specs.Str.{drop_trailing_whitespace}
 use Rattle.std.proofs.lemmas.List.Folds.{list_any-append}
+use Rattle.rst_settings.specs.declared.Parts.{Parts}
 use Rattle.rst_text.specs.Block.{Line, Block, first_text, is_blank}
 use Rattle.std.specs.List.{onto_first}
 use Rattle.rst_text.proofs.Tabs.{expanded_from, expanded_from-start, line_character-keeps}
@@ -109,12 +110,12 @@ AreUnended-pieces (c ∷ cs) = by (c == 13 && begins_with 10 cs) (is_line_end c)
 pub is_line_text-tidied : (tab : ℕ) (piece : List ℕ) → 0 < tab → list_any is_line_end piece ≡ false → is_line_text (tidied tab piece) ≡ true
 is_line_text-tidied tab piece wide h = is_line_text-trimmed (expanded tab piece) (ap (list_any is_line_end) (sym (expanded_from-start tab piece wide)) ∙ unended-expanded tab 0 piece h)
 
-are_lines-numbered : (tab n : ℕ) (ps : List (List ℕ)) → 0 < tab → AreUnended ps → are_lines (numbered_from n (map (tidied tab) ps)) ≡ true
-are_lines-numbered tab n [] wide h = refl
-are_lines-numbered tab n (p ∷ ps) wide h = and_from (is_line_text (tidied tab p)) (are_lines (numbered_from (n + 1) (map (tidied tab) ps))) (is_line_text-tidied tab p wide h.0) (are_lines-numbered tab (n + 1) ps wide h.1)
+are_lines-numbered : (parts : Parts) (tab n : ℕ) (ps : List (List ℕ)) → 0 < tab → AreUnended ps → are_lines (numbered_from parts n (map (tidied tab) ps)) ≡ true
+are_lines-numbered parts tab n [] wide h = refl
+are_lines-numbered parts tab n (p ∷ ps) wide h = and_from (is_line_text (tidied tab p)) (are_lines (numbered_from parts (n + 1) (map (tidied tab) ps))) (is_line_text-tidied tab p wide h.0) (are_lines-numbered parts tab (n + 1) ps wide h.1)
 
-pub are_lines-lines_of : (tab : ℕ) (text : List ℕ) → 0 < tab → are_lines (lines_of tab text) ≡ true
-are_lines-lines_of tab text wide = are_lines-numbered tab 1 (pieces text) wide (AreUnended-pieces text)
+pub are_lines-lines_of : (parts : Parts) (tab : ℕ) (text : List ℕ) → 0 < tab → are_lines (lines_of parts tab text) ≡ true
+are_lines-lines_of parts tab text wide = are_lines-numbered parts tab 1 (pieces text) wide (AreUnended-pieces text)
 
 -- each line of lines
 pub is_line_text-first : (i : ℕ) (B : Block) → are_lines B ≡ true → is_line_text (first_text (drop i B)) ≡ true

@@ -8,6 +8,7 @@ use Rattle.std.proofs.lemmas.Bool.{eqb-true, lt-ltb, le-ltb, false_from_ne_true}
 use Rattle.std.proofs.lemmas.List.{length-replicate}
 use Rattle.std.proofs.lemmas.Nat.{mul-le}
 use Rattle.std.proofs.lemmas.Str.{chars_past_char}
+use Rattle.rst_settings.specs.declared.Parts.{Parts}
 use Rattle.rst_text.specs.Block.{Line}
 use Rattle.rst_text.specs.Lines.{expanded, first_longer, numbered_from, pieces, line_character, tidied}
 use Rattle.rst_text.proofs.Indenting.{no_chars}
@@ -96,32 +97,32 @@ Measures-end limit tab column piece rest m none =
 -- ---- the first of some lines
 
 -- Where none is too long, the first is among those after it.
-longer-after : (limit n : ℕ) (before after : List (List ℕ)) → first_longer limit (numbered_from n before) ≡ None
-    → first_longer limit (numbered_from n (before ++ after)) ≡ first_longer limit (numbered_from (n + length before) after)
-longer-after limit n [] after none = let same : n ≡ n + 0 = omega arith in ap (λ k. first_longer limit (numbered_from k after)) same
-longer-after limit n (text ∷ before) after none = by (nat_lt limit (length text)) (longer-after limit (n + 1) before after) none
+longer-after : (parts : Parts) (limit n : ℕ) (before after : List (List ℕ)) → first_longer limit (numbered_from parts n before) ≡ None
+    → first_longer limit (numbered_from parts n (before ++ after)) ≡ first_longer limit (numbered_from parts (n + length before) after)
+longer-after parts limit n [] after none = let same : n ≡ n + 0 = omega arith in ap (λ k. first_longer limit (numbered_from parts k after)) same
+longer-after parts limit n (text ∷ before) after none = by (nat_lt limit (length text)) (longer-after parts limit (n + 1) before after) none
   where
-    by : (b : Bool) → (first_longer limit (numbered_from (n + 1) before) ≡ None → first_longer limit (numbered_from (n + 1) (before ++ after)) ≡ first_longer limit (numbered_from ((n + 1) + length before) after))
-        → option_map (λ (l : Line). l.number) (cond b (Some (record { number = n; text = text })) (find (λ (l : Line). nat_lt limit (length l.text)) (numbered_from (n + 1) before))) ≡ None
-        → option_map (λ (l : Line). l.number) (cond b (Some (record { number = n; text = text })) (find (λ (l : Line). nat_lt limit (length l.text)) (numbered_from (n + 1) (before ++ after))))
-        ≡ first_longer limit (numbered_from (n + suc (length before)) after)
+    by : (b : Bool) → (first_longer limit (numbered_from parts (n + 1) before) ≡ None → first_longer limit (numbered_from parts (n + 1) (before ++ after)) ≡ first_longer limit (numbered_from parts ((n + 1) + length before) after))
+        → option_map (λ (l : Line). l.number) (cond b (Some (record { number = n; text = text; parts = parts })) (find (λ (l : Line). nat_lt limit (length l.text)) (numbered_from parts (n + 1) before))) ≡ None
+        → option_map (λ (l : Line). l.number) (cond b (Some (record { number = n; text = text; parts = parts })) (find (λ (l : Line). nat_lt limit (length l.text)) (numbered_from parts (n + 1) (before ++ after))))
+        ≡ first_longer limit (numbered_from parts (n + suc (length before)) after)
     by true go none = absurd cc
-    by false go none = let same : (n + 1) + length before ≡ n + suc (length before) = omega arith in go none ∙ ap (λ k. first_longer limit (numbered_from k after)) same
+    by false go none = let same : (n + 1) + length before ≡ n + suc (length before) = omega arith in go none ∙ ap (λ k. first_longer limit (numbered_from parts k after)) same
 
 -- The next line is not too long.
-pub with_next : (limit tab : ℕ) (kept now all : List (List ℕ)) (rest piece after line : List ℕ) → kept ++ map (tidied tab) (pieces (chars rest)) ≡ all
-    → first_longer limit (numbered_from 1 kept) ≡ None → pieces (chars rest) ≡ piece ∷ pieces (chars after) → line ≡ tidied tab piece
+pub with_next : (parts : Parts) (limit tab : ℕ) (kept now all : List (List ℕ)) (rest piece after line : List ℕ) → kept ++ map (tidied tab) (pieces (chars rest)) ≡ all
+    → first_longer limit (numbered_from parts 1 kept) ≡ None → pieces (chars rest) ≡ piece ∷ pieces (chars after) → line ≡ tidied tab piece
     → nat_lt limit (length (tidied tab piece)) ≡ false → now ≡ kept ++ line ∷ []
-    → (now ++ map (tidied tab) (pieces (chars after)) ≡ all) × (first_longer limit (numbered_from 1 now) ≡ None)
-with_next limit tab kept now all rest piece after line read none cut is short are = rw (are, is) (
+    → (now ++ map (tidied tab) (pieces (chars after)) ≡ all) × (first_longer limit (numbered_from parts 1 now) ≡ None)
+with_next parts limit tab kept now all rest piece after line read none cut is short are = rw (are, is) (
   append_assoc kept (tidied tab piece ∷ []) (map (tidied tab) (pieces (chars after))) ∙ ap (λ l. kept ++ map (tidied tab) l) (sym cut) ∙ read,
-  longer-after limit 1 kept (tidied tab piece ∷ []) none ∙ rw short refl,
+  longer-after parts limit 1 kept (tidied tab piece ∷ []) none ∙ rw short refl,
 )
 
 -- The next line is too long.
-pub first_is : (limit tab : ℕ) (kept all : List (List ℕ)) (rest piece after : List ℕ) → kept ++ map (tidied tab) (pieces (chars rest)) ≡ all
-    → first_longer limit (numbered_from 1 kept) ≡ None → pieces (chars rest) ≡ piece ∷ pieces (chars after)
-    → nat_lt limit (length (tidied tab piece)) ≡ true → first_longer limit (numbered_from 1 all) ≡ Some (1 + length kept)
-first_is limit tab kept all rest piece after read none cut long =
-    ap (λ l. first_longer limit (numbered_from 1 l)) (sym read ∙ ap (λ l. kept ++ map (tidied tab) l) cut)
-    ∙ longer-after limit 1 kept (map (tidied tab) (piece ∷ pieces (chars after))) none ∙ rw long refl
+pub first_is : (parts : Parts) (limit tab : ℕ) (kept all : List (List ℕ)) (rest piece after : List ℕ) → kept ++ map (tidied tab) (pieces (chars rest)) ≡ all
+    → first_longer limit (numbered_from parts 1 kept) ≡ None → pieces (chars rest) ≡ piece ∷ pieces (chars after)
+    → nat_lt limit (length (tidied tab piece)) ≡ true → first_longer limit (numbered_from parts 1 all) ≡ Some (1 + length kept)
+first_is parts limit tab kept all rest piece after read none cut long =
+    ap (λ l. first_longer limit (numbered_from parts 1 l)) (sym read ∙ ap (λ l. kept ++ map (tidied tab) l) cut)
+    ∙ longer-after parts limit 1 kept (map (tidied tab) (piece ∷ pieces (chars after))) none ∙ rw long refl

@@ -10,14 +10,15 @@ use Rattle.std.proofs.lemmas.Str.{IsUtf8-string_bytes}
 use Rattle.std.specs.List.{list_all, range_with_len, zip}
 use Rattle.std.specs.Str.{chars, is_utf8}
 use Rattle.std.specs.declared.vec.Vec.{Vec}
-use Rattle.rst_text.specs.Block.{Line, first_text, first_number}
+use Rattle.rst_settings.specs.declared.Parts.{Parts}
+use Rattle.rst_text.specs.Block.{Line, first_text, first_number, first_parts}
 use Rattle.rst_text.specs.Kept.{AreEmpty}
 use Rattle.rst_text.specs.Lines.{is_line_text, are_lines}
 use Rattle.rst_text.specs.MayCut.{is_text, are_texts}
 use Rattle.rst_text.specs.Source.{texts_with, placed_text, spread, ArePlaced, kept_lines, AreKept}
 use Rattle.rst_text.specs.Text.{chars_of}
 use Rattle.rst_text.proofs.LineTexts.{is_line_text-nil}
-use Rattle.rst_text.proofs.NumberedLemmas.{length-numbered, first_number-numbered}
+use Rattle.rst_text.proofs.NumberedLemmas.{length-numbered, first_number-numbered, first_parts-numbered}
 use Rattle.rst_text.proofs.KeptLemmas.{is_text-chars}
 
 -- ---- lines made from their places
@@ -31,8 +32,8 @@ all-made : (q : List ℕ → Bool) (f : ℕ → Line) (a n : ℕ) → ((k : ℕ)
 all-made q f a zero h = refl
 all-made q f a (suc n) h = rw (h a, all-made q f (a + 1) n h) refl
 
-pub first_text-spread : (first count i : ℕ) (texts : List (ℕ × List ℕ)) → i < count → first_text (drop i (spread first count texts)) ≡ placed_text texts i
-first_text-spread first count i texts h = ap first_text (made-at _ count i h)
+pub first_text-spread : (parts : Parts) (first count i : ℕ) (texts : List (ℕ × List ℕ)) → i < count → first_text (drop i (spread parts first count texts)) ≡ placed_text texts i
+first_text-spread parts first count i texts h = ap first_text (made-at _ count i h)
 
 -- ---- the places rise
 
@@ -74,9 +75,9 @@ pub searched-place : (to i : ℕ) (ps : List ℕ) (ts : List (List ℕ)) (r : Re
 searched-place to i ps ts r long h found = searched ps i r found (λ j k order within. rises 0 to j k ps ts long h order within)
 
 -- no place that is given is from one up to another
-pub gap : (first count i end : ℕ) (ps : List ℕ) (ts : List (List ℕ)) → end ≤ count → ((j : ℕ) → j < length ps → (get_or ps j 0 < i) ⊎ (end ≤ get_or ps j 0)) → AreEmpty (spread first count (zip ps ts)) i end
-gap first count i end ps ts within h = λ k low high.
-    first_text-spread first count k (zip ps ts) (omega arith)
+pub gap : (parts : Parts) (first count i end : ℕ) (ps : List ℕ) (ts : List (List ℕ)) → end ≤ count → ((j : ℕ) → j < length ps → (get_or ps j 0 < i) ⊎ (end ≤ get_or ps j 0)) → AreEmpty (spread parts first count (zip ps ts)) i end
+gap parts first count i end ps ts within h = λ k low high.
+    first_text-spread parts first count k (zip ps ts) (omega arith)
     ∙ none-at k ps ts (λ j inside same. elim (h j inside) [ inl before ↦ absurd (omega arith) | inr after ↦ absurd (omega arith) ])
 
 -- ---- each text at a place passes a test that each given text passes, and the empty one
@@ -91,8 +92,8 @@ line_texts : (from to : ℕ) (texts : List (ℕ × List ℕ)) → ArePlaced from
 line_texts from to [] h = refl
 line_texts from to (t ∷ ts) h = rw (h.1, line_texts (t.0 + 1) to ts h.2) refl
 
-pub are_lines-spread : (first count : ℕ) (texts : List (ℕ × List ℕ)) → ArePlaced 0 count texts → are_lines (spread first count texts) ≡ true
-are_lines-spread first count texts h = all-made is_line_text _ 0 count (λ k. passes-at is_line_text texts k is_line_text-nil (line_texts 0 count texts h))
+pub are_lines-spread : (parts : Parts) (first count : ℕ) (texts : List (ℕ × List ℕ)) → ArePlaced 0 count texts → are_lines (spread parts first count texts) ≡ true
+are_lines-spread parts first count texts h = all-made is_line_text _ 0 count (λ k. passes-at is_line_text texts k is_line_text-nil (line_texts 0 count texts h))
 
 text-of_string : {A : Type 0} (s : String A) → is_text (chars_of s) ≡ true
 text-of_string s = is_text-chars (string_bytes s) (IsUtf8-string_bytes s) (omega (arith, s.bytes.ok, s.bytes.small))
@@ -105,8 +106,8 @@ texts-with : {A : Type 0} (texts : List (ℕ × String A)) → list_all (λ (t :
 texts-with [] = refl
 texts-with (t ∷ ts) = rw (text-of_string t.1, texts-with ts) refl
 
-pub are_texts-spread : {A : Type 0} (first count : ℕ) (texts : List (ℕ × String A)) → are_texts (spread first count (texts_with texts)) ≡ true
-are_texts-spread first count texts = all-made is_text _ 0 count (λ k. passes-at is_text (texts_with texts) k is_text-nil (texts-with texts))
+pub are_texts-spread : {A : Type 0} (parts : Parts) (first count : ℕ) (texts : List (ℕ × String A)) → are_texts (spread parts first count (texts_with texts)) ≡ true
+are_texts-spread parts first count texts = all-made is_text _ 0 count (λ k. passes-at is_text (texts_with texts) k is_text-nil (texts-with texts))
 
 -- ---- places and texts that were taken apart
 
@@ -135,10 +136,14 @@ taken_apart texts i kept places p q past =
 
 -- ---- lines as they are kept
 
-pub length-kept_lines : {A : Type 0} (first count : ℕ) (kept : List (List ℕ)) (places : Option (Vec ℕ A)) → AreKept count kept places → length (kept_lines first count kept places) ≡ count
-length-kept_lines first count kept None h = length-numbered first kept ∙ h
-length-kept_lines first count kept (Some places) h = length-map-range_with_len _ 0 count
+pub length-kept_lines : {A : Type 0} (parts : Parts) (first count : ℕ) (kept : List (List ℕ)) (places : Option (Vec ℕ A)) → AreKept count kept places → length (kept_lines parts first count kept places) ≡ count
+length-kept_lines parts first count kept None h = length-numbered parts first kept ∙ h
+length-kept_lines parts first count kept (Some places) h = length-map-range_with_len _ 0 count
 
-pub number-kept_lines : {A : Type 0} (first count i : ℕ) (kept : List (List ℕ)) (places : Option (Vec ℕ A)) → AreKept count kept places → i < count → first_number (drop i (kept_lines first count kept places)) ≡ first + i
-number-kept_lines first count i kept None h within = first_number-numbered first i kept (omega arith)
-number-kept_lines first count i kept (Some places) h within = ap first_number (made-at _ count i within)
+pub number-kept_lines : {A : Type 0} (parts : Parts) (first count i : ℕ) (kept : List (List ℕ)) (places : Option (Vec ℕ A)) → AreKept count kept places → i < count → first_number (drop i (kept_lines parts first count kept places)) ≡ first + i
+number-kept_lines parts first count i kept None h within = first_number-numbered parts first i kept (omega arith)
+number-kept_lines parts first count i kept (Some places) h within = ap first_number (made-at _ count i within)
+
+pub parts-kept_lines : {A : Type 0} (parts : Parts) (first count i : ℕ) (kept : List (List ℕ)) (places : Option (Vec ℕ A)) → AreKept count kept places → i < count → first_parts (drop i (kept_lines parts first count kept places)) ≡ parts
+parts-kept_lines parts first count i kept None h within = first_parts-numbered parts first i kept (omega arith)
+parts-kept_lines parts first count i kept (Some places) h within = ap first_parts (made-at _ count i within)

@@ -1,10 +1,17 @@
 -- Lines, blocks of them, and cuts of blocks (Markup Specification, 'Indentation').
 use Rattle.std.specs.Prelude.{ℕ, suc, ◌-◌, List, [], ◌∷◌, take, drop, map, Bool, true, false, ◌==◌, if◌then◌else◌}
+use Rattle.rst_settings.specs.Parts.{no_parts}
+use Rattle.rst_settings.specs.declared.Parts.{Parts}
 
--- a line: its number in the document, from 1, and its characters
+-- a line: its number in the document, from 1, its characters, and the parts of the markup that hold in it
 pub record Line : Type 0 where
   pub number : ℕ
   pub text : List ℕ
+  pub parts : Parts
+
+-- what stands for a line where there is none
+abbrev pub no_line : Line
+no_line = record { number = 0; text = []; parts = no_parts }
 
 -- a block: lines, one after another
 abbrev pub Block : Type 0
@@ -20,6 +27,11 @@ abbrev pub first_number : Block → ℕ
 first_number [] = 0
 first_number (l ∷ ls) = l.number
 
+-- the parts that hold in a block's first line; past the end there are none
+abbrev pub first_parts : Block → Parts
+first_parts [] = no_parts
+first_parts (l ∷ ls) = l.parts
+
 -- a line with this text is blank: there is no character in it
 abbrev pub is_blank : List ℕ → Bool
 is_blank [] = true
@@ -32,7 +44,7 @@ indentation (c ∷ cs) = if c == 32 then suc (indentation cs) else 0
 
 -- a line without its first n characters; one that is shorter becomes empty
 abbrev pub shorten : ℕ → Line → Line
-shorten n l = record { number = l.number; text = drop n l.text }
+shorten n l = record { number = l.number; text = drop n l.text; parts = l.parts }
 
 -- what w makes of each line with its cut, which is f for the first line and r for each other
 abbrev pub each_cut : {A : Type 0} → (ℕ → Line → A) → ℕ → ℕ → Block → List A

@@ -3,6 +3,7 @@ use Rattle.std.specs.Prelude.{ℕ, ◌+◌, ◌-◌, ◌%◌, Bool, false, ◌&&
 use Rattle.std.specs.Char.{is_whitespace}
 use Rattle.std.specs.List.{find, list_all, list_any, onto_first, slice_split}
 use Rattle.std.specs.Str.{drop_trailing_whitespace}
+use Rattle.rst_settings.specs.declared.Parts.{Parts}
 use Rattle.rst_text.specs.Block.{Line, Block, is_blank}
 
 -- the characters that end a line: LF, CR, U+001C to U+001E, U+0085, U+2028, U+2029
@@ -46,14 +47,14 @@ expanded tab piece = with_tabs tab (slice_split is_tab (map line_character piece
 abbrev pub tidied : ℕ → List ℕ → List ℕ
 tidied tab piece = drop_trailing_whitespace (expanded tab piece)
 
--- texts as lines with numbers, from n on
-abbrev pub numbered_from : ℕ → List (List ℕ) → Block
-numbered_from n [] = []
-numbered_from n (text ∷ texts) = record { number = n; text = text } ∷ numbered_from (n + 1) texts
+-- texts as lines with numbers, from n on; these parts hold in each
+abbrev pub numbered_from : Parts → ℕ → List (List ℕ) → Block
+numbered_from parts n [] = []
+numbered_from parts n (text ∷ texts) = record { number = n; text = text; parts = parts } ∷ numbered_from parts (n + 1) texts
 
 -- the lines of a text, numbered from 1 on
-abbrev pub lines_of : ℕ → List ℕ → Block
-lines_of tab text = numbered_from 1 (map (tidied tab) (pieces text))
+abbrev pub lines_of : Parts → ℕ → List ℕ → Block
+lines_of parts tab text = numbered_from parts 1 (map (tidied tab) (pieces text))
 
 -- a white character ends the text
 abbrev pub ends_white : List ℕ → Bool

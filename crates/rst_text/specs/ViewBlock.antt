@@ -8,7 +8,7 @@ use Rattle.rst_text.specs.declared.view.View.{View}
 
 -- a line without its first n bytes
 abbrev pub without_bytes : ℕ → Line → Line
-without_bytes n l = record { number = l.number; text = chars (bytes_after n l) }
+without_bytes n l = record { number = l.number; text = chars (bytes_after n l); parts = l.parts }
 
 -- lines, the first without f bytes, each other without r
 abbrev pub byte_cut : ℕ → ℕ → Block → Block

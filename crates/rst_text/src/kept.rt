@@ -2,6 +2,7 @@
 ghost use Rattle.std.specs.Prelude.{◌≡◌, ◌+◌, ◌≤◌, ◌<◌, ◌^◌, [], ◌∷◌, ◌++◌, length, slice_index_or, encode_utf8_all, IfOk, IsTrue};
 ghost use Rattle.std.specs.Str.{chars};
 ghost use Rattle.std.specs.List.{list_all};
+ghost use Rattle.rst_settings.specs.Parts.{no_parts};
 ghost use Rattle.rst_text.specs.Kept.{AreEmpty, IsEmptyRun};
 ghost use Rattle.rst_text.specs.Lines.{numbered_from};
 ghost use Rattle.rst_text.specs.MayCut.{is_text};
@@ -79,7 +80,7 @@ impl Kept {
     fn are_empty(&self, i: usize, end: usize) -> bool
         requires some { i < end }
         requires within { end ≤ length self.now }
-        ensures { IsTrue result → AreEmpty (numbered_from 0 self.now) i end }
+        ensures { IsTrue result → AreEmpty (numbered_from no_parts 0 self.now) i end }
     {
         // The texts are in order, so all are empty if the last ends where the first begins.
         self.starts[i] == self.starts[end]
@@ -91,7 +92,7 @@ impl Kept {
         requires in_order { i ≤ to }
         requires within { to ≤ length self.now }
         requires few { to < 2 ^ 63 }
-        ensures { IsEmptyRun (numbered_from 0 self.now) i to result }
+        ensures { IsEmptyRun (numbered_from no_parts 0 self.now) i to result }
     {
         let mut end = i;
         let mut step = 1;

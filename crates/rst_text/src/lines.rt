@@ -1,7 +1,7 @@
 //! The lines of a text.
 ghost use Rattle.std.specs.Prelude.{◌≡◌, ◌+◌, ◌-◌, ◌/◌, ◌≤◌, ◌<◌, ◌^◌, ◌∷◌, ℕ, nat_lt, length, drop, IfOk, IsTrue};
 ghost use Rattle.std.specs.Str.{chars, IsUtf8};
-ghost use Rattle.rst_text.specs.Block.{first_text, first_number};
+ghost use Rattle.rst_text.specs.Block.{first_text, first_number, first_parts};
 ghost use Rattle.rst_text.specs.Faults.{AreWithin};
 ghost use Rattle.rst_text.specs.Kept.{IsEmptyRun};
 ghost use Rattle.rst_text.specs.Lines.{is_line_end, pieces, line_character, expanded, lines_of};
@@ -12,11 +12,13 @@ ghost use Rattle.rst_text.specs.Text.{chars_of};
 use super::fault::LineFault;
 use super::kept::Kept;
 use super::ordinary::ordinary_len;
+use rst_settings::Parts;
 use std::alloc::{AllocError, Global};
 use std::marker::Model;
 
 /// Lines with their numbers, which follow one another: no character of a line ends one, and none is white at a line's
-/// end. Contracts see them as a block, a list of numbers and characters.
+/// end. Contracts see them as a block: each line has its number, its characters and the parts of the markup that hold
+/// in it, which are the same for all.
 #[derive(Debug, Drop)]
 pub struct Lines {
     kept: Kept,
@@ -24,6 +26,8 @@ pub struct Lines {
     pub(crate) count: usize,
     // The places of the lines whose texts are kept, if not all are: the others are empty.
     places: Option<Vec<usize>>,
+    // The parts of the markup that hold in each line.
+    parts: Parts,
 }
 
 impl Model for Lines {
@@ -33,24 +37,24 @@ impl Model for Lines {
 
     ghost use Rattle.rst_text.specs.Source.{kept_lines, HoldsLines};
 
-    ghost view = { λ l. kept_lines l.first l.count l.kept l.places };
+    ghost view = { λ l. kept_lines l.parts l.first l.count l.kept l.places };
 
-    ghost invariant = { λ l. HoldsLines l.first l.count l.kept l.places };
+    ghost invariant = { λ l. HoldsLines l.parts l.first l.count l.kept l.places };
 }
 
 impl Lines {
     /// The lines of a text: cut at its line ends and numbered from 1, in each the tabs expanded to the next multiple
     /// of `tab` columns, form feeds and vertical tabs made spaces and the white characters at its end dropped (Markup
-    /// Specification, 'Whitespace'; Configuration, `tab_width`).
+    /// Specification, 'Whitespace'; Configuration, `tab_width`). These parts of the markup hold in each.
     ///
     /// The only refusal is [`AllocError`].
-    pub fn of(alloc: Global, text: &str, tab: u8) -> Result<Lines, AllocError>
+    pub fn of(alloc: Global, text: &str, tab: u8, parts: Parts) -> Result<Lines, AllocError>
         requires from { 1 ≤ tab }
         requires to { tab ≤ 99 }
-        ensures { IfOk result (λ lines. lines ≡ lines_of tab (chars text.now)) }
+        ensures { IfOk result (λ lines. lines ≡ lines_of parts tab (chars text.now)) }
     {
         // A line with more characters than can be counted would need more memory than there is.
-        match Lines::within(alloc, text, tab, usize::MAX) {
+        match Lines::within(alloc, text, tab, usize::MAX, parts) {
             Ok(lines) => Ok(lines),
             Err(_) => Err(AllocError),
         }
@@ -58,12 +62,19 @@ impl Lines {
 
     /// The lines of a text, if none of them has more than `limit` characters (Configuration, `line_length_limit`). A
     /// line is measured before its tabs are expanded: a tab that is counted takes no memory, an expanded one does.
+    /// These parts of the markup hold in each.
     ///
     /// The refusals are [`LineFault::TooLong`], of the first line that is too long, and [`LineFault::NoMemory`].
-    pub fn within(alloc: Global, text: &str, tab: u8, limit: usize) -> Result<Lines, LineFault>
+    pub fn within(
+        alloc: Global,
+        text: &str,
+        tab: u8,
+        limit: usize,
+        parts: Parts,
+    ) -> Result<Lines, LineFault>
         requires from { 1 ≤ tab }
         requires to { tab ≤ 99 }
-        ensures { AreWithin limit tab (chars text.now) result }
+        ensures { AreWithin parts limit tab (chars text.now) result }
     {
         // Only a tab makes a line longer than it is in the text, so this room is seldom too small.
         let mut kept = Kept::with_room(alloc, text.len())?;
@@ -91,16 +102,18 @@ impl Lines {
             first: 1,
             count,
             places: None,
+            parts,
         })
     }
 
-    /// `count` lines, numbered from `first` on. They are empty but for these texts, which are given with their places,
-    /// counted from 0. The places rise and are below `count`; no character of a text ends a line, and its last isn't
-    /// white. A line that is given no text takes no memory.
+    /// `count` lines, numbered from `first` on. These parts of the markup hold in each. They are empty but for these
+    /// texts, which are given with their places, counted from 0. The places rise and are below `count`; no character of
+    /// a text ends a line, and its last isn't white. A line that is given no text takes no memory.
     ///
     /// The only refusal is [`AllocError`].
     pub fn numbered(
         alloc: Global,
+        parts: Parts,
         first: usize,
         count: usize,
         texts: &[(usize, String)],
@@ -108,7 +121,7 @@ impl Lines {
         requires placed { ArePlaced 0 count (texts_with texts.now) }
         requires few { count < 2 ^ 63 }
         requires numbers { first + count ≤ 2 ^ 64 }
-        ensures { IfOk result (λ made. made ≡ spread first count (texts_with texts.now)) }
+        ensures { IfOk result (λ made. made ≡ spread parts first count (texts_with texts.now)) }
     {
         let mut kept = Kept::with_room(alloc, 0)?;
         let mut places = Vec::new(alloc);
@@ -121,6 +134,7 @@ impl Lines {
             first,
             count,
             places: Some(places),
+            parts,
         })
     }
 
@@ -151,6 +165,13 @@ impl Lines {
         ensures { (k : ℕ) → k ≤ i → result ≡ first_number (drop k self.now) + (i - k) }
     {
         self.first + i
+    }
+
+    /// The parts of the markup that hold in each line.
+    pub(crate) fn parts(&self) -> Parts
+        ensures { (k : ℕ) → k < length self.now → result ≡ first_parts (drop k self.now) }
+    {
+        self.parts
     }
 
     /// The place after some empty lines from place `i` on, `to` at most.

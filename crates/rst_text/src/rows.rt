@@ -3,8 +3,10 @@
 #![tactic(auto, unfolding(crate::proofs::Computing::rst_text))]
 
 ghost use Rattle.std.specs.Prelude.{◌≡◌, ◌++◌, true, false, Some, None, codes, filter, map, [], ◌∷◌};
+ghost use Rattle.rst_settings.specs.Parts.{no_parts};
 ghost use Rattle.rst_text.specs.Characters.{columns, is_alphanumeric, is_letter, is_white};
 ghost use Rattle.rst_text.specs.Lines.{expanded, lines_of, first_longer};
+ghost use Rattle.rst_text.specs.Marks.{holds_role, parts_in};
 ghost use Rattle.rst_text.specs.Escapes.{is_escaped, unescaped};
 ghost use Rattle.rst_text.specs.Names.{id_of, name_of};
 ghost use Rattle.rst_text.specs.SimpleNames.{is_simple_name};
@@ -13,19 +15,27 @@ ghost use Rattle.rst_text.specs.Written.{block};
 
 /// Lines of a text (Markup Specification, 'Whitespace').
 pub fn lines()
-    ensures line_ends { map (λ l. l.text) (lines_of 8 (codes "a\r\nb\rc\n\nd")) ≡ codes "a" ∷ codes "b" ∷ codes "c" ∷ [] ∷ codes "d" ∷ [] }
-    ensures further_line_ends { map (λ l. l.text) (lines_of 8 (codes "a\u{1c}b\u{1d}c\u{1e}d\u{85}e\u{2028}f\u{2029}g\u{1b}h\u{1f}i"))
+    ensures line_ends { map (λ l. l.text) (lines_of no_parts 8 (codes "a\r\nb\rc\n\nd")) ≡ codes "a" ∷ codes "b" ∷ codes "c" ∷ [] ∷ codes "d" ∷ [] }
+    ensures further_line_ends { map (λ l. l.text) (lines_of no_parts 8 (codes "a\u{1c}b\u{1d}c\u{1e}d\u{85}e\u{2028}f\u{2029}g\u{1b}h\u{1f}i"))
         ≡ codes "a" ∷ codes "b" ∷ codes "c" ∷ codes "d" ∷ codes "e" ∷ codes "f" ∷ codes "g\u{1b}h\u{1f}i" ∷ [] }
     ensures numbers { map (λ l. l.number) (block ("a" ∷ "" ∷ "b" ∷ [])) ≡ 1 ∷ 2 ∷ 3 ∷ [] }
     ensures tab { expanded 8 (codes "ab\tc") ≡ codes "ab      c" }
     ensures tab_at_a_stop { expanded 4 (codes "abcd\te") ≡ codes "abcd    e" }
     ensures tab_after_a_wide_character { expanded 8 (codes "中\tb") ≡ codes "中       b" }
     ensures vertical_tab_and_form_feed { expanded 8 (codes "a\u{b}b\u{c}c") ≡ codes "a b c" }
-    ensures white_at_the_end { map (λ l. l.text) (lines_of 8 (codes "a \t\n")) ≡ codes "a" ∷ [] }
-    ensures white_past_ascii_at_the_end { map (λ l. l.text) (lines_of 8 (codes "a\u{3000}\n=\u{2003}\u{a0}\nb\u{1f}"))
+    ensures white_at_the_end { map (λ l. l.text) (lines_of no_parts 8 (codes "a \t\n")) ≡ codes "a" ∷ [] }
+    ensures white_past_ascii_at_the_end { map (λ l. l.text) (lines_of no_parts 8 (codes "a\u{3000}\n=\u{2003}\u{a0}\nb\u{1f}"))
         ≡ codes "a" ∷ codes "=" ∷ codes "b\u{1f}" ∷ [] }
     ensures longer { first_longer 2 (block ("ab" ∷ "abc" ∷ "abcd" ∷ [])) ≡ Some 2 }
     ensures none_longer { first_longer 4 (block ("ab" ∷ "abcd" ∷ [])) ≡ None }
+{}
+
+/// Marks of parts of the markup that hold only where they are asked for (Markup Specification, 'Interpreted Text').
+pub fn marks()
+    ensures role { holds_role (codes "a :b:`c`") ≡ true }
+    ensures escaped_colon { holds_role (codes "a\\:`b`") ≡ true }
+    ensures apart { holds_role (codes ":a: `b` `c`: :") ≡ false }
+    ensures unasked { parts_in no_parts (codes ":a:`b`") ≡ no_parts }
 {}
 
 /// A byte order mark at the beginning of a text (Configuration, 'input_encoding').

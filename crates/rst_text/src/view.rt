@@ -7,6 +7,7 @@ ghost use Rattle.rst_text.specs.MayCut.{may_cut_at, is_indented, are_texts};
 use super::lines::Lines;
 use super::looks::Looks;
 use super::text::{indentation, skip, tail};
+use rst_settings::Parts;
 
 /// Some neighbouring lines, the first without some characters at its front and the others without some spaces at
 /// theirs. It borrows the lines and copies nothing. Contracts see it by `block_of`, as a block.
@@ -45,7 +46,7 @@ pub struct Extent {
 }
 
 impl<'a> View<'a> {
-    ghost use Rattle.rst_text.specs.Block.{cut, first_text, first_number};
+    ghost use Rattle.rst_text.specs.Block.{cut, first_text, first_number, first_parts};
     ghost use Rattle.rst_text.specs.ViewBlock.{block_of, source_of, IsPlacement, placement_block};
     ghost use Rattle.rst_text.specs.Extent.{extent_of};
     ghost use Rattle.rst_text.specs.Kept.{IsEmptyRun};
@@ -132,6 +133,15 @@ impl<'a> View<'a> {
         ensures from_first { result ≡ first_number (block_of self.now) + i }
     {
         self.lines.number(self.from + i)
+    }
+
+    /// The parts of the markup that hold in the line at place `i`, counted from 0.
+    pub fn parts(&self, i: usize) -> Parts
+        requires { i < length (block_of self.now) }
+        ensures value { result ≡ first_parts (drop i (block_of self.now)) }
+        ensures as_first { result ≡ first_parts (block_of self.now) }
+    {
+        self.lines.parts()
     }
 
     /// The text of the line at place `i`, counted from 0, at the price of one look.

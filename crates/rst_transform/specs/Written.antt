@@ -2,6 +2,7 @@
 use Prim.Native.String.{String}
 use Rattle.std.proofs.Common.{arith}
 use Rattle.std.specs.Prelude.{◌≡◌, true, List, [], ◌∷◌, codes, map}
+use Rattle.rst_settings.specs.Parts.{no_parts}
 use Rattle.rst_settings.specs.Profile.{profile_of}
 use Rattle.rst_settings.specs.declared.Settings.{Settings}
 use Rattle.rst_settings.specs.declared.Threshold.TheVariants.{Never, Severe, Warning}
@@ -13,7 +14,7 @@ use Rattle.rst_transform.specs.Finishing.{leaves}
 
 -- the settings of a run without options
 abbrev pub usual : Settings
-usual = record { report = Warning; halt = Severe; exit = Never; title = true; info = true; tab = 8; limit = 10000; tab_from = omega arith; tab_to = omega arith }
+usual = record { report = Warning; halt = Severe; exit = Never; title = true; info = true; tab = 8; limit = 10000; parts = no_parts; tab_from = omega arith; tab_to = omega arith }
 
 -- of a document of these nodes, in which no number was given to a message, these lines are printed after all transforms, without a source
 abbrev pub Leaves : Settings → List Node → List String → Type 0

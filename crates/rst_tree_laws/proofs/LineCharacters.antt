@@ -11,6 +11,7 @@ use Rattle.ucd_case.specs.CaseFolding.{simple_folding}
 use Rattle.ucd_case.proofs.CaseFoldingLemmas.{simple_folding_stepped}
 use Rattle.ucd_table.proofs.Computing.{tables}
 use Rattle.ucd_table.proofs.RangedFacts.{Stepped-at_values, values_ok}
+use Rattle.rst_settings.specs.declared.Parts.{Parts}
 use Rattle.rst_text.specs.Block.{Block}
 use Rattle.rst_text.specs.Characters.{Text}
 use Rattle.rst_text.specs.Lines.{are_lines, begins_with, expanded, is_line_end, is_line_text, is_tab, line_character, lines_of, numbered_from, padded, pieces, tidied, with_tabs}
@@ -108,12 +109,12 @@ unfolding expanded
 tidied_kept tab piece h =
     dropped_kept is_text_character _ (tabs_kept tab _ (split_kept is_text_character is_tab (map line_character piece) (all_map _ _ line_character shown_kept piece h)))
 
-numbered_kept : (n : ℕ) (texts : List Text) → AllByRecursion (Kept is_text_character) texts → BlockKept is_text_character (numbered_from n texts)
-numbered_kept n [] h = tt
-numbered_kept n (text ∷ texts) h = (h.0, numbered_kept (n + 1) texts h.1)
+numbered_kept : (parts : Parts) (n : ℕ) (texts : List Text) → AllByRecursion (Kept is_text_character) texts → BlockKept is_text_character (numbered_from parts n texts)
+numbered_kept parts n [] h = tt
+numbered_kept parts n (text ∷ texts) h = (h.0, numbered_kept parts (n + 1) texts h.1)
 
-pub lines_kept : (tab : ℕ) (text : Text) → all_scalars text ≡ true → BlockKept is_text_character (lines_of tab text)
-lines_kept tab text e = numbered_kept 1 _ (all_map _ _ (tidied tab) (tidied_kept tab) (pieces text) (pieces_kept text e))
+pub lines_kept : (parts : Parts) (tab : ℕ) (text : Text) → all_scalars text ≡ true → BlockKept is_text_character (lines_of parts tab text)
+lines_kept parts tab text e = numbered_kept parts 1 _ (all_map _ _ (tidied tab) (tidied_kept tab) (pieces text) (pieces_kept text e))
 
 -- what is known of the lines of any text
 pub texts_kept : (B : Block) → are_lines B ≡ true → are_texts B ≡ true → BlockKept is_text_character B

@@ -1,6 +1,7 @@
 //! Documents that are read: their trees, how many looks at lines they take, and how deep blocks may be nested.
 use super::tree_tests::tree_of;
 use rst_block::{BlockFault, parse};
+use rst_settings::Parts;
 use rst_text::{Counted, Lines};
 use rst_tree::print_with_source;
 use std::alloc::Global;
@@ -42,7 +43,7 @@ const DOCUMENTS: &[(&str, &str)] = &[
 fn reads_documents(rt: HostRuntime) -> Result<(), Fail> {
     let alloc = rt.alloc();
     for &(text, want) in DOCUMENTS {
-        let lines = Lines::of(alloc, text, 8)?;
+        let lines = Lines::of(alloc, text, 8, Parts::NONE)?;
         let parsed = parse(alloc, &lines)?;
         let tree = tree_of(parsed.tree.into_root())?;
         let mut out = Counted::of(Vec::new(alloc));
@@ -55,7 +56,7 @@ fn reads_documents(rt: HostRuntime) -> Result<(), Fail> {
 
 /// The looks that a document takes.
 fn looks_of(alloc: Global, text: &str) -> Result<u128, Fail> {
-    let lines = Lines::of(alloc, text, 8)?;
+    let lines = Lines::of(alloc, text, 8, Parts::NONE)?;
     Ok(parse(alloc, &lines)?.looks)
 }
 
@@ -112,7 +113,7 @@ fn quotes_in_quotes_stay_within_their_bounds(rt: HostRuntime) -> Result<(), Fail
 
 /// The line at which the blocks of a text are nested too deeply, if they are.
 fn line_too_deep(alloc: Global, text: &str) -> Result<Option<usize>, Fail> {
-    let lines = Lines::of(alloc, text, 8)?;
+    let lines = Lines::of(alloc, text, 8, Parts::NONE)?;
     match parse(alloc, &lines) {
         Ok(_) => Ok(None),
         Err(BlockFault::TooDeep { line }) => Ok(Some(line)),

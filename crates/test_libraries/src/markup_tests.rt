@@ -7,6 +7,7 @@ use rst_markup_directives::{
     Detail, Directive, DirectiveFault, Place, called, directive, message, target_value,
 };
 use rst_markup_lines::listed_options;
+use rst_settings::Parts;
 use rst_text::{Lines, Looks, View};
 use std::alloc::{AllocError, Global};
 use std::test::Fail;
@@ -48,7 +49,7 @@ const DIRECTIVES: &[(&str, &str)] = &[
 fn reads_directives(rt: HostRuntime) -> Result<(), Fail> {
     let alloc = rt.alloc();
     for &(text, want) in DIRECTIVES {
-        let lines = Lines::of(alloc, text, 8)?;
+        let lines = Lines::of(alloc, text, 8, Parts::NONE)?;
         let view = View::whole(&lines);
         let mut looks = Looks::none();
         assert!(rt; 0 < view.len());

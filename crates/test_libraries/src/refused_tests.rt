@@ -10,7 +10,7 @@ use rst_inline::{inline, unescape};
 use rst_markup_blocks::{Explicit, explicit, kind_of};
 use rst_markup_directives::{Argument, Directive, Kind, Place};
 use rst_markup_tables::{TableResult, grid, simple};
-use rst_settings::Settings;
+use rst_settings::{Parts, Settings};
 use rst_text::{Counted, Lines, Looks, TextFault, View, decode, id_of, name_of, normalized_white};
 use rst_transform::finish;
 use rst_tree::{Key, Node, Tag, Tree, Value, print};
@@ -70,7 +70,12 @@ fn cuts_lines(rt: HostRuntime) {
     let wanted = ["a       b", "", "-       c", "d e"];
     let mut refusals = Refusals::none();
     for _ in 0..2 {
-        match Lines::of(rt.alloc(), "a\tb\r\n\r\n-\tc\rd\u{C}e\u{2028}", 8) {
+        match Lines::of(
+            rt.alloc(),
+            "a\tb\r\n\r\n-\tc\rd\u{C}e\u{2028}",
+            8,
+            Parts::NONE,
+        ) {
             Ok(lines) => {
                 assert_eq!(rt; lines.count(), wanted.len());
                 for (i, want) in wanted.iter().enumerate() {
@@ -92,7 +97,7 @@ fn places_lines(rt: HostRuntime) {
         let Ok(text) = String::from_str(rt.alloc(), "x") else {
             return;
         };
-        match Lines::numbered(rt.alloc(), 5, 4, &[(2, text)]) {
+        match Lines::numbered(rt.alloc(), Parts::NONE, 5, 4, &[(2, text)]) {
             Ok(lines) => {
                 let view = View::whole(&lines);
                 assert!(rt; 2 < view.len());
@@ -318,7 +323,7 @@ fn grids(rt: HostRuntime) {
     let alloc = rt.alloc();
     let text =
         "+---+---+\n| a | b |\n+===+===+\n| c | d |\n|   +---+\n|   | e |\n+---+---+\n| f     |\n+-------+";
-    let Ok(lines) = Lines::of(alloc, text, 8) else {
+    let Ok(lines) = Lines::of(alloc, text, 8, Parts::NONE) else {
         return;
     };
     let view = View::whole(&lines);
@@ -339,7 +344,7 @@ fn grids(rt: HostRuntime) {
 fn simples(rt: HostRuntime) {
     let alloc = rt.alloc();
     let text = "== ==\na  b\n== ==\nc  d\n-----\ne  f\n   g\n== ==";
-    let Ok(lines) = Lines::of(alloc, text, 8) else {
+    let Ok(lines) = Lines::of(alloc, text, 8, Parts::NONE) else {
         return;
     };
     let view = View::whole(&lines);
@@ -380,7 +385,7 @@ fn judge_note(rt: &impl Abort, found: &Directive) {
 fn directives(rt: HostRuntime) {
     let alloc = rt.alloc();
     let text = ".. note:: a\n   :class: x\n\n   t\n\n   u";
-    let Ok(lines) = Lines::of(alloc, text, 8) else {
+    let Ok(lines) = Lines::of(alloc, text, 8, Parts::NONE) else {
         return;
     };
     let view = View::whole(&lines);
@@ -446,7 +451,7 @@ fn judge_lines(rt: &impl Abort, lines: &Lines) {
 
 #[test]
 fn reads_documents(rt: HostRuntime) {
-    let Ok(lines) = Lines::of(rt.alloc(), DOCUMENT, 8) else {
+    let Ok(lines) = Lines::of(rt.alloc(), DOCUMENT, 8, Parts::NONE) else {
         return;
     };
     let mut refusals = Refusals::none();

@@ -1,6 +1,7 @@
 //! Tables: what they are, and what is wrong with those that are malformed. The answers come from outside.
 use rst_markup_blocks::{Construct, Kind};
 use rst_markup_tables::{Cell, TableResult, grid, malformed_text, simple};
+use rst_settings::Parts;
 use rst_text::{Lines, Looks, View};
 use std::alloc::{AllocError, Global};
 use std::test::Fail;
@@ -118,7 +119,7 @@ pub fn show(alloc: Global, table: TableResult) -> Result<String, AllocError> {
 #[test]
 fn grids(rt: HostRuntime) -> Result<(), Fail> {
     for &(text, want) in GRIDS {
-        let lines = Lines::of(rt.alloc(), text, 8)?;
+        let lines = Lines::of(rt.alloc(), text, 8, Parts::NONE)?;
         let view = View::whole(&lines);
         assert!(rt; view.len() > 0);
         let mut looks = Looks::none();
@@ -132,7 +133,7 @@ fn grids(rt: HostRuntime) -> Result<(), Fail> {
 #[test]
 fn simples(rt: HostRuntime) -> Result<(), Fail> {
     for &(text, want) in SIMPLES {
-        let lines = Lines::of(rt.alloc(), text, 8)?;
+        let lines = Lines::of(rt.alloc(), text, 8, Parts::NONE)?;
         let view = View::whole(&lines);
         assert!(rt; view.len() > 0);
         let mut looks = Looks::none();
@@ -145,7 +146,7 @@ fn simples(rt: HostRuntime) -> Result<(), Fail> {
 
 /// The end of the construct of a kind that begins at the first line of a text.
 fn end_by(alloc: Global, kind: Kind, text: &str) -> Result<Option<usize>, AllocError> {
-    let lines = Lines::of(alloc, text, 8)?;
+    let lines = Lines::of(alloc, text, 8, Parts::NONE)?;
     let view = View::whole(&lines);
     let mut looks = Looks::none();
     if 0 < view.len() && kind.starts(&view, 0, true, &mut looks) {

@@ -1,7 +1,7 @@
 //! Texts, and the documents that are finished of them.
 use super::tree_tests::printed;
 use rst_block::{BlockFault, Parsed, parse};
-use rst_settings::Settings;
+use rst_settings::{Parts, Settings};
 use rst_text::Lines;
 use rst_transform::{Finished, finish};
 use std::alloc::Global;
@@ -10,7 +10,7 @@ use std::test::Fail;
 
 /// What is read of a text, before the transforms.
 fn read(alloc: Global, text: &str) -> Result<Parsed, BlockFault> {
-    let lines = Lines::of(alloc, text, 8)?;
+    let lines = Lines::of(alloc, text, 8, Parts::NONE)?;
     parse(alloc, &lines)
 }
 

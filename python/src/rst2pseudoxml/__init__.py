@@ -2,7 +2,7 @@
 
 The text is read in this process, by a library that holds no state: any number of threads may call it at once. A `text` is a str, or
 bytes, a bytearray or a memoryview that has to be UTF-8. `settings` are the long options of the program `rst2pseudoxml`, with `_` in place
-of `-` (`Settings`).
+of `-`, and the `profile` (`Settings`).
 """
 
 from __future__ import annotations
@@ -44,6 +44,8 @@ class Settings(TypedDict, total=False):
     """Columns from one tab stop to the next, 1 to 99; 8 if not given."""
     line_length_limit: int
     """The most characters of a line, 1 to 16,777,216; 10,000 if not given. With a longer line the tree is an ERROR alone."""
+    profile: str
+    """What is markup: "base" (if not given) as for the program; "docutils" with what docs/profile/wider.md adds, as Docutils has it."""
 
 
 class Refused(Exception):
@@ -103,7 +105,8 @@ class _Options(Structure):
         ("line_length_limit", c_uint32),
         ("no_doc_title", c_uint8),
         ("no_doc_info", c_uint8),
-        ("unused", c_uint8 * 2),
+        ("profile", c_uint8),
+        ("unused", c_uint8),
     ]
 
 
@@ -128,6 +131,7 @@ LIBRARY = _loaded()
 LONGEST = 16_777_216  # bytes of a text, and characters of a line
 _NAMES = ("info", "warning", "error", "severe", "none")
 LEVELS = {given: number for number, name in enumerate(_NAMES, 1) for given in (name, number, str(number))}
+PROFILES = {"base": 0, "docutils": 1}
 _REFUSED = {
     3: ("too long", "input too long"),
     4: ("not UTF-8", "not UTF-8 at byte {}"),
@@ -145,6 +149,7 @@ _ALLOWED = {
     "no_doc_info": _FLAG,
     "tab_width": ((int,), "an int, 1 to 99"),
     "line_length_limit": ((int,), "an int, 1 to 16,777,216"),
+    "profile": ((str,), '"base" or "docutils"'),
 }
 
 
@@ -167,6 +172,7 @@ def _options(
     no_doc_info: bool = False,
     tab_width: int = 8,
     line_length_limit: int = 10_000,
+    profile: str = "base",
 ) -> _Options:
     if not all(level in LEVELS for level in (report, halt, exit_status)):
         raise ValueError("rst2pseudoxml: bad level")
@@ -174,8 +180,16 @@ def _options(
         raise ValueError("rst2pseudoxml: bad tab width")
     if not 1 <= line_length_limit <= LONGEST:
         raise ValueError("rst2pseudoxml: bad line limit")
+    if profile not in PROFILES:
+        raise ValueError('rst2pseudoxml: bad profile: it has to be "base" or "docutils"')
     levels = (LEVELS[report], LEVELS[halt], LEVELS[exit_status])
-    return _Options(sizeof(_Options), *levels, tab_width, line_length_limit, no_doc_title, no_doc_info)
+    return _Options(sizeof(_Options), *levels, tab_width, line_length_limit, no_doc_title, no_doc_info, PROFILES[profile])
+
+
+def options_of(settings: Settings) -> _Options:
+    """The options of a call with these settings. Wrong ones are a TypeError or a ValueError."""
+    _check(settings)
+    return _options(**settings)
 
 
 def _bytes(text: Text) -> bytes:
@@ -195,8 +209,7 @@ def _name(source: str) -> str:
 def answer(entry: Any, text: Text, settings: Settings, before: tuple[Any, ...] = (), after: tuple[Any, ...] = ()) -> tuple[str, int]:
     """What an entry of the library makes of a text, and the program's exit status."""
     data = _bytes(text)
-    _check(settings)
-    options = _options(**settings)
+    options = options_of(settings)
     result = _Result()
     size = 4 * len(data) + 4096  # enough for nearly all
     while True:

@@ -7,9 +7,10 @@ are in `transform_messages`, and a writer makes their section.
 
 These settings count: `report_level`, `halt_level`, `doctitle_xform`, `docinfo_xform`, `tab_width`, `line_length_limit`,
 `trim_footnote_reference_space`, and what other transforms and writers read. Others of the reStructuredText parser (such as
-`syntax_highlight`) change nothing. The page docs/DOCUTILS.md of this project says what is read otherwise than by Docutils. The document's
-tables are filled, except `refnames`, `indirect_targets` and, in `footnote_refs`, references to automatic footnotes, which only the transforms
-that are done would read. `rawsource` is empty.
+`syntax_highlight`) change nothing. The profile is "docutils" if no other is given: what docs/profile/wider.md of this project adds to markup is
+read as Docutils reads it. The page docs/DOCUTILS.md says what is read otherwise than by Docutils. The document's tables are filled, except
+`refnames`, `indirect_targets` and, in `footnote_refs`, references to automatic footnotes, which only the transforms that are done would read.
+`rawsource` is empty.
 """
 
 from __future__ import annotations
@@ -24,7 +25,7 @@ from docutils.parsers import rst
 from docutils.readers import standalone
 from docutils.transforms import Transform, frontmatter, references, universal
 
-from . import HALTED, LIBRARY, Text, answer, collector_paused, messages
+from . import HALTED, LIBRARY, Text, answer, collector_paused, messages, options_of
 from ._nodes import fill
 
 _DONE = set(standalone.Reader().get_transforms()) - set(readers.Reader().get_transforms()) - {frontmatter.SectionSubTitle}
@@ -36,14 +37,19 @@ class Parser(rst.Parser):
 
     Messages are reported in the order of the document, those of transforms when transforms are applied: they are written to the warning
     stream. One at or above the halt level is a `docutils.utils.SystemMessage`. A text that the library refuses is a
-    `rst2pseudoxml.Refused`.
+    `rst2pseudoxml.Refused`. Another profile than "base" and "docutils" is a ValueError.
     """
+
+    def __init__(self, rfc2822: bool = False, inliner: Any = None, profile: str = "docutils") -> None:
+        super().__init__(rfc2822, inliner)
+        options_of({"profile": profile})  # refuses a wrong one
+        self.profile = profile
 
     def parse(self, inputstring: Text, document: Any) -> None:
         """Puts what is read of a text into a document that is empty."""
         text: Any = inputstring  # Docutils asks for a str, and only keeps it
         self.setup_parse(text, document)
-        made = _read(text, document)
+        made = _read(text, document, self.profile)
         with collector_paused():
             of_parser, of_transforms = fill(document, loads(made))
         for message in of_parser:
@@ -55,14 +61,15 @@ class Parser(rst.Parser):
             transformer.add_transform(_Finished, messages=of_transforms)
 
 
-def doctree(text: Text, settings: Any = None, source: str = "<stdin>") -> nodes.document:
+def doctree(text: Text, settings: Any = None, source: str = "<stdin>", profile: str = "docutils") -> nodes.document:
     """The document of a text, as `docutils.core.publish_doctree` gives it.
 
     `settings` are those of Docutils, by default its defaults (no configuration file is read). `source` is the name of the text in messages.
-    Exceptions are those of `Parser`.
+    The `profile` and exceptions are those of `Parser`.
     """
+    parser = Parser(profile=profile)
     document: Any = utils.new_document(source, settings or copy(_defaults()))
-    Parser().parse(text, document)
+    parser.parse(text, document)
     document.transformer.add_transforms([transform for transform in _AFTER if _is_needed(transform, document.settings)])
     document.transformer.apply_transforms()
     document.current_source = document.current_line = None
@@ -89,7 +96,7 @@ def _defaults() -> Any:
     return getattr(frontend, "get_default_settings")(Parser, standalone.Reader)  # unknown to types-docutils of 2022
 
 
-def _read(text: Text, document: Any) -> str:
+def _read(text: Text, document: Any, profile: str) -> str:
     """The finished document as JSON, with all messages. If one of them halts the run, all up to it are reported, which is an exception."""
     given, reporter = document.settings, document.reporter
     settings: Any = {
@@ -100,6 +107,7 @@ def _read(text: Text, document: Any) -> str:
         "no_doc_info": not getattr(given, "docinfo_xform", True),
         "tab_width": getattr(given, "tab_width", 8),
         "line_length_limit": getattr(given, "line_length_limit", 10_000),
+        "profile": profile,
     }
     made, status = answer(LIBRARY.rst_json, text, settings)
     if status == HALTED:

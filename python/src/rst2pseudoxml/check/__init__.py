@@ -1,6 +1,6 @@
 """Checks reStructuredText pages: prints their system messages, and a line for each page that is refused.
 
-    rst-check [--level LEVEL] [--known NAMES|@FILE].. [--code] [--format FORMAT] [--jobs N] [--name FILE] [--] FILE|FOLDER|-..
+    rst-check [--level LEVEL] [--known NAMES|@FILE].. [--code] [--profile PROFILE] [--format FORMAT] [--jobs N] [--name FILE] [--] FILE|FOLDER|-..
     rst-check --help
 
 The messages at or above LEVEL (info, warning, error, severe or none, or 1 to 5; warning by default) are shown, and a page
@@ -36,6 +36,9 @@ directive defines (as a target, citation, footnote, substitution or role, or by 
 includes, such as <isonum.txt>. Messages on other names are shown, since nothing here says what defines them. If all messages of
 some pages are on unknown names, a last line on standard error says with which option these pages pass.
 
+PROFILE is docutils (the default) or base. With docutils more is read as Docutils has it (docs/profile/wider.md): so far, that a
+line which begins with a role is no field. With base a page is read as the program rst2pseudoxml reads it.
+
 With --code the blocks of code are read whose language is JSON, Python, TOML (by Python 3.11 or later) or XML. A fault is an ERROR.
 
 FORMAT is gcc (the default: FILE:LINE: (TYPE/LEVEL) TEXT, and source text), github (annotations of a workflow), or json: an object
@@ -50,7 +53,7 @@ import sys
 from io import TextIOWrapper
 from typing import Iterable, Iterator, NoReturn
 
-from .. import LEVELS, Refused
+from .. import LEVELS, PROFILES, Refused
 from .files import FILE, content, pages_in
 from .formats import FORMATS
 from .jobs import Outcome, Progress, Stopped, outcomes
@@ -59,7 +62,7 @@ from .pages import Page, Pages
 
 __all__ = ["Known", "Page", "Pages", "known_names", "main"]
 
-USAGE = "rst-check [--level LEVEL] [--known NAMES|@FILE].. [--code] [--format FORMAT] [--jobs N] [--name FILE] [--] FILE|FOLDER|-.."
+USAGE = "rst-check [--level LEVEL] [--known NAMES|@FILE].. [--code] [--profile PROFILE] [--format FORMAT] [--jobs N] [--name FILE] [--] FILE|FOLDER|-.."
 
 
 class Checker:
@@ -68,7 +71,7 @@ class Checker:
     def __init__(self, known: Known, options: dict[str, str]) -> None:
         self.show = FORMATS[options["--format"]]
         self.name = options["--name"]
-        self.pages = Pages(known, options["--level"], bool(options["--code"]))
+        self.pages = Pages(known, options["--level"], bool(options["--code"]), profile=options["--profile"])
 
     def name_of(self, page: str) -> str:
         return self.name if page == "-" else page
@@ -118,7 +121,7 @@ def _pages(given: list[str], known: Known) -> Iterator[str]:
 
 def _options(arguments: list[str]) -> dict[str, str]:
     """The options, which are taken from the front of the arguments."""
-    given = {"--level": "warning", "--format": "gcc", "--known": ""}
+    given = {"--level": "warning", "--profile": "docutils", "--format": "gcc", "--known": ""}
     given.update({"--jobs": str(len(os.sched_getaffinity(0))), "--name": "<stdin>", "--code": ""})
     while arguments and arguments[0].startswith("-") and arguments[0] != "-":
         argument = arguments.pop(0)
@@ -137,6 +140,8 @@ def _options(arguments: list[str]) -> dict[str, str]:
         given[option] = f"{given[option]}\n{value}" if option == "--known" else value
     if given["--level"] not in LEVELS:
         _refuse(f"no such level: {given['--level']}")
+    if given["--profile"] not in PROFILES:
+        _refuse(f"no such profile: {given['--profile']}")
     if given["--format"] not in FORMATS:
         _refuse(f"no such format: {given['--format']}")
     if not given["--jobs"].isdecimal() or int(given["--jobs"]) < 1:

@@ -213,15 +213,17 @@ class Page(NamedTuple):
 class Pages:
     """Reads pages, one at a time: gives their messages at or above a level, without those on known names, and with `code` faults in code.
 
-    The settings are those of a call that say how a text is read.
+    The settings are those of a call that say how a text is read. The `profile` is "docutils", if no other is given.
     """
 
     def __init__(self, known: Known | None = None, level: Level = "warning", code: bool = False, **settings: Any) -> None:
         if level not in LEVELS:
             raise ValueError("rst2pseudoxml: bad level")
+        settings.setdefault("profile", "docutils")
         self.known = known or Known()
         self.level = LEVELS[level]
         self.code = code
+        self.profile: str = settings["profile"]
         self.tab_width: int = settings.get("tab_width", 8)
         self.reader = Reader(min(self.level, ERROR) if self.known.marks and self.level <= 4 else self.level, settings)
 

@@ -14,7 +14,7 @@ from pathlib import Path
 from typing import Any, BinaryIO, Callable, Iterator
 from urllib.parse import unquote, urlsplit
 
-from .. import LEVELS
+from .. import LEVELS, PROFILES
 from ..check import Known, Pages
 from ..check.files import FILE
 from .page import Page
@@ -27,10 +27,10 @@ INVALID_REQUEST, NO_METHOD, INTERNAL = -32600, -32601, -32603  # codes of the pr
 
 
 class Server:
-    """Answers an editor. The level and the code are those of rst-check."""
+    """Answers an editor. The level, the code and the profile are those of rst-check."""
 
-    def __init__(self, given: BinaryIO, out: BinaryIO, level: str = "info", code: bool = False) -> None:
-        self.given, self.out, self.level, self.code = given, out, level, code
+    def __init__(self, given: BinaryIO, out: BinaryIO, level: str = "info", code: bool = False, profile: str = "docutils") -> None:
+        self.given, self.out, self.level, self.code, self.profile = given, out, level, code, profile
         self.pages: dict[str, Page] = {}
         self.shut = False
         self.methods: dict[str, Callable[[Any], Any]] = {
@@ -87,7 +87,7 @@ class Server:
 
     def show(self, uri: str, text: str, reader: Pages | None = None) -> None:
         """Keeps a text and shows its messages; the known names are read anew, if no reader of pages is given."""
-        page = self.pages[uri] = Page(text, reader or Pages(self.known(uri), self.level, self.code))
+        page = self.pages[uri] = Page(text, reader or Pages(self.known(uri), self.level, self.code, profile=self.profile))
         self.send(method="textDocument/publishDiagnostics", params={"uri": uri, "diagnostics": page.diagnostics()})
 
     def known(self, uri: str) -> Known:
@@ -127,6 +127,8 @@ def main() -> int:
     levels = [level for level in LEVELS if isinstance(level, str)]
     parser.add_argument("--level", choices=levels, metavar="LEVEL", default="info", help="show messages at or above LEVEL; info by default")
     parser.add_argument("--code", action="store_true", help="read blocks of code, as rst-check does")
+    profile = "read pages by this profile, docutils or base, as rst-check does; docutils by default"
+    parser.add_argument("--profile", choices=list(PROFILES), metavar="PROFILE", default="docutils", help=profile)
     given, _ = parser.parse_known_args()  # others, such as `--stdio`, change nothing
     sys.setrecursionlimit(10_000)  # for trees that are 500 deep
-    return Server(sys.stdin.buffer, sys.stdout.buffer, given.level, given.code).serve()
+    return Server(sys.stdin.buffer, sys.stdout.buffer, given.level, given.code, given.profile).serve()

@@ -70,7 +70,7 @@ class Page:
     def tree(self, no_doc_title: bool = False) -> Node:
         """The document; one without elements if the text is refused."""
         try:
-            return tree(self.data, report="none", halt="none", no_doc_title=no_doc_title)
+            return tree(self.data, report="none", halt="none", no_doc_title=no_doc_title, profile=self.reader.profile)
         except Refused:
             return Node("document", {}, (), 0)
 

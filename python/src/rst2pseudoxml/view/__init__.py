@@ -230,6 +230,8 @@ def arguments(given: list[str] | None) -> tuple[argparse.Namespace, dict[str, An
     parser.add_argument("-w", "--watch", action="store_true", help="serve the page on this machine alone, and show the file whenever it is saved")
     names = "leave out messages on these names, as rst-check does (rst-check --help); .rst-known in the current folder is read too"
     parser.add_argument("--known", metavar="NAMES|@FILE", action="append", default=[], help=names)
+    profile = "read the text by this profile, docutils or base, as rst-check does; docutils by default"
+    parser.add_argument("--profile", metavar="PROFILE", default="docutils", help=profile)
     reading = parser.add_argument_group("as for rst2pseudoxml", argument_default=argparse.SUPPRESS)
     reading.add_argument("-r", "--report", metavar="LEVEL", help="the lowest level of the messages that are shown")
     reading.add_argument("--tab-width", metavar="N", type=int, help="columns from one tab stop to the next")

@@ -16,5 +16,6 @@ returns c = record {
   line_length_limit = refl;
   no_doc_title = refl;
   no_doc_info = refl;
+  profile = refl;
   unused = refl;
 }

@@ -5,9 +5,10 @@ use Rattle.rst_c.proofs.rows.settings.Goals as goal
 pub returns : goal.returns
 unfolding rst_c
 returns c = record {
-  usual = record { in_range = refl; report = refl; halt = refl; exit = refl; title = refl; info = refl; tab = refl; limit = refl };
-  levels = record { in_range = refl; report = refl; halt = refl; exit = refl; title = refl; info = refl; tab = refl; limit = refl };
-  higher_levels = record { in_range = refl; report = refl; halt = refl; exit = refl; title = refl; info = refl; tab = refl; limit = refl };
-  no_doc_title = record { in_range = refl; report = refl; halt = refl; exit = refl; title = refl; info = refl; tab = refl; limit = refl };
-  no_doc_info = record { in_range = refl; report = refl; halt = refl; exit = refl; title = refl; info = refl; tab = refl; limit = refl };
+  usual = record { in_range = refl; report = refl; halt = refl; exit = refl; title = refl; info = refl; tab = refl; limit = refl; parts = refl };
+  levels = record { in_range = refl; report = refl; halt = refl; exit = refl; title = refl; info = refl; tab = refl; limit = refl; parts = refl };
+  higher_levels = record { in_range = refl; report = refl; halt = refl; exit = refl; title = refl; info = refl; tab = refl; limit = refl; parts = refl };
+  no_doc_title = record { in_range = refl; report = refl; halt = refl; exit = refl; title = refl; info = refl; tab = refl; limit = refl; parts = refl };
+  no_doc_info = record { in_range = refl; report = refl; halt = refl; exit = refl; title = refl; info = refl; tab = refl; limit = refl; parts = refl };
+  profile = record { in_range = refl; report = refl; halt = refl; exit = refl; title = refl; info = refl; tab = refl; limit = refl; parts = refl };
 }

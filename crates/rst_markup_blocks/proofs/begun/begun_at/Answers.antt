@@ -22,8 +22,9 @@ returns-then-is_none-clause-begun c =
 pub returns-clause-begun : goal.returns-clause-begun
 returns-clause-begun c =
     let X : Block = drop c.args.at (block_of c.args.view.now) in
+    let parts = sym c.parts.ensures.value in
     let first_line = sym c.line-text.ensures.text in
     let next = sym c.below_text-next.ensures.text in
     let after = sym c.below_text-after.ensures.text in
-    begun_of X (chars c.line-text.result.now) (chars c.below_text-next.result.now) (chars c.below_text-after.result.now) c.begun_by.result first_line next after
-    (c.begun_by.ensures.kind X first_line next after) c.begun_by.ensures.mark
+    begun_of X c.parts.result (chars c.line-text.result.now) (chars c.below_text-next.result.now) (chars c.below_text-after.result.now) c.begun_by.result parts first_line next after
+    (c.begun_by.ensures.kind X parts first_line next after) c.begun_by.ensures.mark

@@ -12,4 +12,5 @@ returns c = record {
   options = refl;
   options_alone = refl;
   option_with_text = refl;
+  roles = refl;
 }

@@ -8,4 +8,7 @@ returns c = record {
   values = refl;
   text = refl;
   indented_first = refl;
+  role = refl;
+  role_without_the_part = refl;
+  escaped_colon = refl;
 }

@@ -14,4 +14,9 @@ returns c = record {
   first_colon = refl;
   no_names = refl;
   unclosed = refl;
+  role = refl;
+  role_without_the_part = refl;
+  escaped_colon = refl;
+  role_in_the_body = refl;
+  colon_last_with_parts = refl;
 }

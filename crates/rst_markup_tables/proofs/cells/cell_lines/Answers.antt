@@ -18,4 +18,5 @@ returns c =
     let texts = c.in_ok-texts.ensures.texts ∙ ap (texts_among c.args.left c.args.right G) c.requires.among in
     let indent = c.least_indent-least.ensures ∙ ap (λ ts. least_indent (as_lines (texts_with ts))) c.deref.ensures.value in
     let first : c.match-last.first ≡ (get_or G 0 no_row).number = search rules in
-    cell_block-is c.args.left c.args.right G _ least _ _ c.requires.numbered first texts indent (c.in_ok-texts-2.ensures)
+    let same : c.match-first.parts ≡ (get_or G 0 no_row).parts = search rules in
+    cell_block-is c.args.left c.args.right G c.match-first.parts _ least _ _ c.requires.numbered same first texts indent (c.in_ok-texts-2.ensures)

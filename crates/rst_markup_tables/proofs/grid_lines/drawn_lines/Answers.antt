@@ -40,7 +40,7 @@ loop-k-preserved c =
     let B : Block = block_of c.args.view.now in
     let n : ℕ = c.loop-k.k - c.args.i in
     let drawn : is_drawn (first_text (drop c.loop-k.k B)) ≡ true = sym (c.is_drawn.ensures ∙ ap is_drawn c.line-text.ensures.text) ∙ c.if-not-is_drawn.false in
-    let more = line_more B c.args.i c.loop-k.k c.in_ok-line.line c.loop-k.lines.items (omega arith) (omega arith) c.in_ok-line.ensures.line c.in_ok-line.ensures.number c.loop-k.invariant.lines c.loop-k.invariant.numbered in
+    let more = line_more B c.args.i c.loop-k.k c.in_ok-line.line c.loop-k.lines.items (omega arith) (omega arith) c.in_ok-line.ensures.line (c.in_ok-line.ensures.number, c.in_ok-line.ensures.parts) c.loop-k.invariant.lines c.loop-k.invariant.numbered in
     let step = border-more B c.args.i c.loop-k.k c.loop-k.bottom (omega arith) c.loop-k.invariant.last in
     let new : c.if-k-i-ge2.bottom ≡ cond (leb 2 n && is_grid_border (first_text (drop c.loop-k.k B))) (Some n) c.loop-k.bottom = grind (arith, nat_tests, c.line-text.ensures.text) in
     record {

@@ -2,6 +2,7 @@ use Rattle.std.proofs.Common.{◌≡◌, ◌∙◌, ap, ap₂, ℕ, List}
 use Rattle.std.specs.List.{list_any}
 use Rattle.std.specs.Str.{all_scalars, chars}
 use Rattle.std.proofs.lemmas.Str.{scalars-chars}
+use Rattle.rst_settings.specs.declared.Parts.{Parts}
 use Rattle.rst_text.specs.Lines.{is_line_end, is_line_text}
 use Rattle.rst_text.specs.ViewBlock.{block_of}
 use Rattle.rst_text.proofs.Cuts.{is_line_text-line}
@@ -23,9 +24,12 @@ invariant_of-result c =
 
 pub returns-clause-line : goal.returns-clause-line
 returns-clause-line c =
-    let row : ℕ → List Place → Row = λ n ps. record { number = n; places = ps } in
-    row_here (block_of c.args.view.now) c.args.k (row c.number-number.result c.in_ok-places.places.items) c.requires.inside
-    (ap₂ row c.number-number.ensures.value (c.in_ok-places.ensures ∙ ap places_of c.requires.text))
+    let row : ℕ → Parts → List Place → Row = λ n parts ps. record { number = n; places = ps; parts = parts } in
+    row_here (block_of c.args.view.now) c.args.k (row c.number-number.result c.parts-parts.result c.in_ok-places.places.items) c.requires.inside
+    (ap₂ (λ n parts. row n parts c.in_ok-places.places.items) c.number-number.ensures.value c.parts-parts.ensures.value ∙ ap (row _ _) (c.in_ok-places.ensures ∙ ap places_of c.requires.text))
 
 pub returns-clause-number : goal.returns-clause-number
 returns-clause-number c = c.number-number.ensures.from_first
+
+pub returns-clause-parts : goal.returns-clause-parts
+returns-clause-parts c = c.parts-parts.ensures.as_first

@@ -1,6 +1,7 @@
 use Rattle.std.proofs.Common.{◌≡◌, ◌<◌, ◌≤◌, ◌∙◌, length, get_or, drop, inl, inr, sym, ap, arith, Err}
 use Rattle.std.proofs.lemmas.Bool.{cases_lt}
 use Rattle.std.proofs.lemmas.List.{get_or_default}
+use Rattle.rst_settings.specs.Parts.{no_parts}
 use Rattle.rst_text.specs.Block.{Block, first_text}
 use Rattle.rst_text.specs.Source.{kept_lines}
 use Rattle.rst_text.proofs.NumberedLemmas.{first_text-numbered}
@@ -9,12 +10,12 @@ use Rattle.rst_text.proofs.lines.Lines.empty_end.Goals as goal
 
 pub empty_end-requires-clause-within : goal.empty_end-requires-clause-within
 empty_end-requires-clause-within c =
-    let size : length c.args.self.now ≡ c.self.inside.count = sym (ap length c.self.view_is) ∙ length-kept_lines _ _ _ _ c.self.invariant.kept_so in
+    let size : length c.args.self.now ≡ c.self.inside.count = sym (ap length c.self.view_is) ∙ length-kept_lines c.self.inside.parts _ _ _ _ c.self.invariant.kept_so in
     omega (arith, rw c.in-None.is at c.self.invariant.kept_so, c.requires.within)
 
 pub empty_end-requires-clause-few : goal.empty_end-requires-clause-few
 empty_end-requires-clause-few c =
-    let size : length c.args.self.now ≡ c.self.inside.count = sym (ap length c.self.view_is) ∙ length-kept_lines _ _ _ _ c.self.invariant.kept_so in
+    let size : length c.args.self.now ≡ c.self.inside.count = sym (ap length c.self.view_is) ∙ length-kept_lines c.self.inside.parts _ _ _ _ c.self.invariant.kept_so in
     omega (arith, c.self.invariant.few, c.requires.within)
 
 pub returns-in-None : goal.returns-in-None
@@ -25,8 +26,8 @@ returns-in-None c =
       above = run.above;
       within = run.within;
       empty = λ k low high.
-          ap (λ (B : Block). first_text (drop k B)) (sym c.self.view_is ∙ ap (kept_lines c.self.inside.first c.self.inside.count kept) c.in-None.is)
-          ∙ first_text-numbered c.self.inside.first k kept ∙ sym (first_text-numbered 0 k kept) ∙ run.empty k low high;
+          ap (λ (B : Block). first_text (drop k B)) (sym c.self.view_is ∙ ap (kept_lines c.self.inside.parts c.self.inside.first c.self.inside.count kept) c.in-None.is)
+          ∙ first_text-numbered c.self.inside.parts c.self.inside.first k kept ∙ sym (first_text-numbered no_parts 0 k kept) ∙ run.empty k low high;
     }
 
 pub returns-in-Ok : goal.returns-in-Ok
@@ -38,7 +39,7 @@ returns-in-Err c =
     let next = c.in-Err.next in
     let ps = c.in-Some.places.items in
     let so = rw c.in-Some.is at c.self.invariant.kept_so in
-    let size : length c.args.self.now ≡ l.count = sym (ap length c.self.view_is) ∙ length-kept_lines _ _ _ _ c.self.invariant.kept_so in
+    let size : length c.args.self.now ≡ l.count = sym (ap length c.self.view_is) ∙ length-kept_lines c.self.inside.parts _ _ _ _ c.self.invariant.kept_so in
     let found = searched-place l.count c.args.i ps l.kept (Err next) so.0 so.1 (rw c.as_slice.ensures.value at c.in-Err.ensures.position) in
     let inside : next < length ps = omega (arith, c.if-next-len.true, c.len.ensures, c.in-Some.places.ok) in
     let place : c.index.result.now ≡ get_or ps next 0 = c.index.ensures ∙ sym (get_or_default ps next 0 c.index.result.now inside) in
@@ -46,8 +47,8 @@ returns-in-Err c =
       above = omega (arith, c.min.ensures, c.requires.in_order, found.2 next (omega arith) inside);
       within = omega (arith, c.min.ensures);
       empty = λ k low high.
-          ap (λ (B : Block). first_text (drop k B)) (sym c.self.view_is ∙ ap (kept_lines l.first l.count l.kept) c.in-Some.is)
-          ∙ gap l.first l.count c.args.i c.min.result ps l.kept (omega (arith, c.min.ensures, c.requires.within))
+          ap (λ (B : Block). first_text (drop k B)) (sym c.self.view_is ∙ ap (kept_lines l.parts l.first l.count l.kept) c.in-Some.is)
+          ∙ gap l.parts l.first l.count c.args.i c.min.result ps l.kept (omega (arith, c.min.ensures, c.requires.within))
           (λ j within. elim (cases_lt j next) [ inl before ↦ inl (found.1 j before) | inr after ↦ inr (omega (arith, c.min.ensures, rises 0 l.count next j ps l.kept so.0 so.1 after within)) ]) k low high;
     }
 
@@ -57,13 +58,13 @@ returns-in-Err-2 c =
     let next = c.in-Err.next in
     let ps = c.in-Some.places.items in
     let so = rw c.in-Some.is at c.self.invariant.kept_so in
-    let size : length c.args.self.now ≡ l.count = sym (ap length c.self.view_is) ∙ length-kept_lines _ _ _ _ c.self.invariant.kept_so in
+    let size : length c.args.self.now ≡ l.count = sym (ap length c.self.view_is) ∙ length-kept_lines c.self.inside.parts _ _ _ _ c.self.invariant.kept_so in
     let found = searched-place l.count c.args.i ps l.kept (Err next) so.0 so.1 (rw c.as_slice.ensures.value at c.in-Err.ensures.position) in
     let past : length ps ≤ next = omega (arith, c.if-next-len.false, c.len.ensures, c.in-Some.places.ok) in
     record {
       above = c.requires.in_order;
       within = omega arith;
       empty = λ k low high.
-          ap (λ (B : Block). first_text (drop k B)) (sym c.self.view_is ∙ ap (kept_lines l.first l.count l.kept) c.in-Some.is)
-          ∙ gap l.first l.count c.args.i c.args.to ps l.kept (omega (arith, c.requires.within)) (λ j within. inl (found.1 j (omega arith))) k low high;
+          ap (λ (B : Block). first_text (drop k B)) (sym c.self.view_is ∙ ap (kept_lines l.parts l.first l.count l.kept) c.in-Some.is)
+          ∙ gap l.parts l.first l.count c.args.i c.args.to ps l.kept (omega (arith, c.requires.within)) (λ j within. inl (found.1 j (omega arith))) k low high;
     }

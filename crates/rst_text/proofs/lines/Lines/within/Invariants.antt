@@ -9,7 +9,7 @@ use Rattle.rst_text.proofs.lines.Lines.within.Given as goal
 abbrev pub invariant-loop-rest : goal.invariant-loop-rest
 invariant-loop-rest l =
     shadow (Utf8 l.rest) × (l.kept ++ map (tidied l.fn.tab) (pieces (chars l.rest)) ≡ map (tidied l.fn.tab) (pieces (chars l.text)))
-    × (first_longer l.limit (numbered_from 1 l.kept) ≡ None)
+    × (first_longer l.limit (numbered_from l.parts 1 l.kept) ≡ None)
 
 abbrev pub decreases-loop-rest : goal.decreases-loop-rest
 decreases-loop-rest l = length l.rest
