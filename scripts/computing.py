@@ -115,11 +115,14 @@ def main():
     for line in (TOP / "crates.txt").read_text().splitlines():
         crate, _, libraries = line.split("#")[0].partition(":")
         for path, text in written(crate.split(" ")[0], libraries.split()):
-            if not check:
+            # A file that stays the same isn't touched: a gate that runs then would keep nothing of its crate.
+            if path.exists() and path.read_text() == text:
+                continue
+            if check:
+                stale.append(str(path.relative_to(TOP)))
+            else:
                 path.parent.mkdir(parents=True, exist_ok=True)
                 path.write_text(text)
-            elif not path.exists() or path.read_text() != text:
-                stale.append(str(path.relative_to(TOP)))
     if stale:
         sys.exit(f"scripts/computing.py writes another text: {' '.join(stale)}")
 
