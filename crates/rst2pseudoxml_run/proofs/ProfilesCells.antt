@@ -1,7 +1,7 @@
 -- Where no call of program code is in the lines of a table, none is in its cells: each line of a cell is a part of a line of the table, or of the rule
 -- between head and body.
 use Rattle.std.proofs.Common.{◌≡◌, ℕ, zero, suc, ◌+◌, ◌-◌, inl, inr, Bool, true, false, cond, ◌&&◌, ◌||◌, ◌==◌, List, [], ◌∷◌, length, take, drop, map, get_or, Option, Some, None, is_some, unwrap_or, refl, sym, ap, subst, ◌∙◌, true≢false}
-use Rattle.std.specs.Prelude.{flat_map, nat_le}
+use Rattle.std.specs.Prelude.{flat_map, nat_le, slice_set}
 use Rattle.std.specs.Char.{is_whitespace}
 use Rattle.std.specs.List.{range_with_len, AllByRecursion}
 use Rattle.std.specs.Str.{drop_trailing_whitespace}
@@ -22,7 +22,7 @@ use Rattle.rst_markup_tables.proofs.CellLemmas.{characters-places, cut-keeps}
 use Rattle.rst_markup_tables.proofs.Dashes.{IsDash, dashed-characters}
 use Rattle.rst2pseudoxml_run.specs.CodeCalls.{begins_code, holds_code, IsWithoutCode}
 use Rattle.rst2pseudoxml_run.proofs.ProfilesCode.{and_right, drop_free, part_free}
-use Rattle.rst2pseudoxml_run.proofs.ProfilesLists.{all_any, all_drop, all_flat, all_map, all_set, all_take}
+use Rattle.rst_tree_laws.proofs.Lists.{all_drop, all_flat, all_made, all_map, all_take}
 
 -- ---- parts of lines
 
@@ -102,6 +102,11 @@ first_holds p low (suc n) k found = by (p low) refl found (λ later. first_holds
     by true passes same others = subst (λ j. p j ≡ true) (ap (λ o. unwrap_or o 0) same) passes
     by false fails same others = others same
 
+all_set : {A : Type 0} (P : A → Type 0) (k : ℕ) (y : A) (xs : List A) → P y → AllByRecursion P xs → AllByRecursion P (slice_set xs k y)
+all_set P k y [] here h = tt
+all_set P zero y (x ∷ xs) here h = (here, h.1)
+all_set P (suc k) y (x ∷ xs) here h = (h.0, all_set P k y xs here h.1)
+
 dashes_free_in : (B : Block) (head : Option ℕ) → head_of (rows_of B) ≡ head → IsWithoutCode B → AreRowsFree (with_dashes (rows_of B) head)
 dashes_free_in B None found free = rows_free B free
 dashes_free_in B (Some k) found free =
@@ -115,7 +120,7 @@ abbrev IsCellFree : Cell → Type 0
 IsCellFree cell = IsWithoutCode cell.lines
 
 table_free : (rows : List (List Cell)) → AllByRecursion (AllByRecursion IsCellFree) rows → AllByRecursion IsWithoutCode (map (λ (cell : Cell). cell.lines) (flat_map (λ (row : List Cell). row) rows))
-table_free rows free = all_map IsCellFree IsWithoutCode (λ (cell : Cell). cell.lines) (λ cell h. h) (flat_map (λ (row : List Cell). row) rows) (all_flat IsCellFree rows free)
+table_free rows free = all_map IsCellFree IsWithoutCode (λ (cell : Cell). cell.lines) (λ cell h. h) (flat_map (λ (row : List Cell). row) rows) (all_flat (AllByRecursion IsCellFree) IsCellFree (λ row. row) (λ row h. h) rows free)
 
 -- what holds where a value is there and where it isn't
 either_way : {A : Type 0} (P : Option A → Type 0) → P None → ((x : A) → P (Some x)) → (o : Option A) → P o
@@ -127,10 +132,10 @@ tiled_free line i head G free =
     either_way (λ tiling. AllByRecursion IsWithoutCode (cell_blocks (tiled line i head G tiling))) tt
     (λ rs.
     let places : List ℕ = range_with_len 0 (below (is_row G rs) (length G) - 1) in
-    table_free (map (row_cells (below (is_row G rs)) (below (is_column G rs)) G rs) places) (all_any (AllByRecursion IsCellFree) (row_cells (below (is_row G rs)) (below (is_column G rs)) G rs) (λ n.
-    all_any IsCellFree (cell_of (below (is_row G rs)) (below (is_column G rs)) G) (λ r.
+    table_free (map (row_cells (below (is_row G rs)) (below (is_column G rs)) G rs) places) (all_made (AllByRecursion IsCellFree) (row_cells (below (is_row G rs)) (below (is_column G rs)) G rs) places (λ n.
+    all_made IsCellFree (cell_of (below (is_row G rs)) (below (is_column G rs)) G) _ (λ r.
     cell_free (r.left + 1) (Some r.right) (take (r.bottom - (r.top + 1)) (drop (r.top + 1) G))
-    (all_take IsRowFree (r.bottom - (r.top + 1)) (drop (r.top + 1) G) (all_drop IsRowFree (r.top + 1) G free))) _) places))
+    (all_take IsRowFree (r.bottom - (r.top + 1)) (drop (r.top + 1) G) (all_drop IsRowFree (r.top + 1) G free))))))
     (tiling_of G)
 
 grid_by_free : (line i : ℕ) (B : Block) (fault : Option TableDetail) → IsWithoutCode B → AllByRecursion IsWithoutCode (cell_blocks (grid_by line i (rows_of B) fault))
@@ -142,9 +147,9 @@ grid_by_free line i B None free =
 simple_by_free : (line i : ℕ) (head : Option ℕ) (T : Grid) (fault : Option TableDetail) → AreRowsFree T → AllByRecursion IsWithoutCode (cell_blocks (simple_by line i head T fault))
 simple_by_free line i head T (Some detail) free = tt
 simple_by_free line i head T None free =
-    table_free (map (row_entries T) (simple_rows T)) (all_any (AllByRecursion IsCellFree) (row_entries T) (λ r.
-    all_any IsCellFree (entry (lines_of_row T r) (row_spans T r)) (λ k.
-    cell_free (span_of (row_spans T r) k).from (span_right (row_spans T r) k) (lines_of_row T r) (all_take IsRowFree (r.to - r.from) (drop r.from T) (all_drop IsRowFree r.from T free))) _) (simple_rows T))
+    table_free (map (row_entries T) (simple_rows T)) (all_made (AllByRecursion IsCellFree) (row_entries T) (simple_rows T) (λ r.
+    all_made IsCellFree (entry (lines_of_row T r) (row_spans T r)) _ (λ k.
+    cell_free (span_of (row_spans T r) k).from (span_right (row_spans T r) k) (lines_of_row T r) (all_take IsRowFree (r.to - r.from) (drop r.from T) (all_drop IsRowFree r.from T free)))))
 
 -- the lines of a table
 lines_free : (n i : ℕ) (B : Block) → IsWithoutCode B → IsWithoutCode (take n (drop i B))

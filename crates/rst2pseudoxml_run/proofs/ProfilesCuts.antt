@@ -23,7 +23,7 @@ use Rattle.rst_block_state.proofs.MarkFacts.{chosen}
 use Rattle.rst2pseudoxml_run.specs.CodeCalls.{IsWithoutCode}
 use Rattle.rst2pseudoxml_run.proofs.ProfilesCells.{IsLineFree, grid_cells_free, simple_cells_free}
 use Rattle.rst2pseudoxml_run.proofs.ProfilesCode.{drop_free}
-use Rattle.rst2pseudoxml_run.proofs.ProfilesLists.{all_drop, all_map, all_take}
+use Rattle.rst_tree_laws.proofs.Lists.{all_drop, all_map, all_take}
 use Rattle.rst2pseudoxml_run.proofs.ProfilesNeeds.{CellsKeep, OpenedKeep}
 
 -- no call is in any of some blocks
