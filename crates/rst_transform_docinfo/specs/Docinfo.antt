@@ -20,10 +20,10 @@ first_named from [] = []
 first_named from (n ∷ ns) = named from n ∷ ns
 
 -- what happens to a field list, and the messages then; the first node has the list's ids and names, too
-abbrev pub replaced : ℕ → List Report → Node → List Node × List Report
-replaced first reports (Element t a c l) =
-    let all = gathered first (none_yet reports) (nodes_of c) in (first_named a (docinfo_nodes l all), all.reports)
-replaced first reports (Text t) = ([], reports)
+abbrev pub replaced : Bool → ℕ → List Report → Node → List Node × List Report
+replaced keywords first reports (Element t a c l) =
+    let all = gathered first (none_yet keywords reports) (nodes_of c) in (first_named a (docinfo_nodes l all), all.reports)
+replaced keywords first reports (Text t) = ([], reports)
 
 -- whether a node may come before the field list: a title, a subtitle, a comment, a target, a substitution definition or a message
 abbrev pub may_lead : Node → Bool
@@ -47,14 +47,14 @@ abbrev pub after_titles : List Node → List Node → List Node
 after_titles more nodes = let titles = prefix_len is_title nodes in take titles nodes ++ (more ++ drop titles nodes)
 
 -- the nodes of a document with this leading list, if there is one, and the messages then
-abbrev pub nodes_with_docinfo : ℕ → List Report → Option Node → List Node → List Node × List Report
-nodes_with_docinfo first reports None nodes = (nodes, reports)
-nodes_with_docinfo first reports (Some list) nodes =
-    let made = replaced first reports list in (after_titles made.0 (remove nodes (list_place nodes)), made.1)
+abbrev pub nodes_with_docinfo : Bool → ℕ → List Report → Option Node → List Node → List Node × List Report
+nodes_with_docinfo keywords first reports None nodes = (nodes, reports)
+nodes_with_docinfo keywords first reports (Some list) nodes =
+    let made = replaced keywords first reports list in (after_titles made.0 (remove nodes (list_place nodes)), made.1)
 
--- the document whose leading field list became its bibliography, and what is known then
-abbrev pub with_docinfo : Document → Known → Document × Known
-with_docinfo document known =
+-- the document whose leading field list became its bibliography, with the values of keywords or with these as they are, and what is known then
+abbrev pub with_docinfo : Bool → Document → Known → Document × Known
+with_docinfo keywords document known =
     let nodes = nodes_of document.children in
-    let made = nodes_with_docinfo known.first_number known.reports (leading_list nodes) nodes in
+    let made = nodes_with_docinfo keywords known.first_number known.reports (leading_list nodes) nodes in
     (record document { children = forest_of made.0 }, record known { reports = made.1 })

@@ -45,7 +45,7 @@ pub fn filter_adds_nothing()
 
 /// Bibliographic fields add at most the levels of a message in the body of a field.
 pub fn docinfo_adds_little()
-    ensures { (document : Document) (known : Known) → height ((with_docinfo document known).0).children ≤ height document.children + 3 }
+    ensures { (keywords : Bool) (document : Document) (known : Known) → height ((with_docinfo keywords document known).0).children ≤ height document.children + 3 }
 {}
 
 /// Where each replacement text has at most `h` levels, with each substitution reference in it counted as `h`, a document whose references are
