@@ -1,7 +1,7 @@
 #!/usr/bin/env python3
 """Compares the program's trees of real documents with those of Docutils, and what both cost.
 
-    bench/real.py [--jobs N] [--only PACKAGE]... [--list KIND] [--program PROGRAM] [FOLDER]
+    bench/real.py [--jobs N] [--only PACKAGE]... [--list KIND] [--program PROGRAM] [--wider COMMAND] [FOLDER]
 
 The documents are those that some packages of Debian ship (`bench/documents.py`). Each package is fetched by `apt-get download` and
 unpacked into FOLDER, unless it is there already; nothing is installed. Without FOLDER that is a temporary one. Any other folder in
@@ -15,8 +15,12 @@ the same file, with the same path, and nothing halts. Docutils runs three times:
   reduced   like that, and without what the profile leaves out: directives, roles, e-mail addresses, RCS keywords; the documents
             whose trees are the same in `plain` aren't read again
 
+The trees of `plain` are also compared with those of the wider profile (docs/profile/wider.md), which COMMAND prints:
+
+  wider     with --syntax-highlight=none, and the wider profile here
+
 It prints tables in Markdown: how many trees are the same, byte for byte; the kinds of the first difference of the others; how often
-directives and roles that the profile leaves out are used; CPU seconds. `--list KIND` names the documents whose first difference is of a
+directives and roles are used that the profile, and the wider one, leave out; CPU seconds. `--list KIND` names the documents whose first difference is of a
 kind. A document's directives read no other files here, and nothing from the network. All packages take some 10 CPU minutes, and 700 MB.
 """
 
@@ -27,6 +31,7 @@ import os
 import pathlib
 import platform
 import resource
+import shlex
 import subprocess
 import sys
 import tempfile
@@ -37,7 +42,8 @@ from differences import Difference, unknown
 from documents import PACKAGES, Document, fetch, laid_out, version
 
 TOP = pathlib.Path(__file__).resolve().parent.parent
-VARIANTS = ("default", "plain", "reduced")
+VARIANTS = ("default", "plain", "reduced", "wider")
+WIDER = f"{shlex.quote(str(TOP / 'dist/rst-tree'))} --profile=docutils"
 DIRECTIVES = (
     "attention caution danger error hint important note tip warning admonition topic image figure replace code code-block sourcecode"
 ).split()
@@ -109,10 +115,10 @@ def children() -> float:
     return usage.ru_utime + usage.ru_stime
 
 
-def run(program: str, path: str) -> tuple[str, float]:
-    """The tree that the program prints of a file, or its line on the refusal; its CPU seconds."""
+def run(command: list[str], path: str) -> tuple[str, float]:
+    """The tree that a command prints of a file, or its line on the refusal; its CPU seconds."""
     began = children()
-    done = subprocess.run([program, "--halt=none", path], stdout=subprocess.PIPE, stderr=subprocess.PIPE)
+    done = subprocess.run([*command, "--halt=none", path], stdout=subprocess.PIPE, stderr=subprocess.PIPE)
     seconds = children() - began
     if done.returncode != 0:
         return done.stderr.decode("utf-8", "replace").strip().split("\n")[-1], seconds
@@ -122,37 +128,39 @@ def run(program: str, path: str) -> tuple[str, float]:
 def kind_of(ours: str, theirs: str, known: set[tuple[str, str]]) -> str:
     if ours == theirs:
         return ""
-    if ours.startswith("rst2pseudoxml: "):
+    if ours.startswith(("rst2pseudoxml: ", "rst-tree: ")):
         return "refused here"
     return f"Docutils {theirs}" if theirs.startswith("raised ") else Difference(ours, theirs, known).kind()
 
 
-def compared(variant: str, program: str, work: str, documents: list[Document]) -> list[Outcome]:
-    """All documents in one variant."""
+def compared(variant: str, commands: list[list[str]], work: str, documents: list[Document]) -> list[list[Outcome]]:
+    """All documents in one variant of Docutils, beside each of some commands."""
     os.chdir(work)
     docutils = Docutils(variant)
     pathlib.Path(f"warm-{variant}.rst").write_text("Title\n=====\n\n- *a*\n\n.. note:: b_\n", encoding="utf-8")
     docutils.tree(f"warm-{variant}.rst")
-    outcomes = []
+    found: list[list[Outcome]] = [[] for _ in commands]
     for document in documents:
         began = time.process_time()
         theirs = docutils.tree(document.path)
         spent = time.process_time() - began
-        ours, seconds = run(program, document.path)
-        names = [name for name in map(unknown, ours.split("\n")) if name in docutils.known]
-        kind = kind_of(ours, theirs, docutils.known)
-        outcomes.append(Outcome(document, kind, seconds, spent, collections.Counter(names)))
-    return outcomes
+        for command, outcomes in zip(commands, found):
+            ours, seconds = run(command, document.path)
+            names = [name for name in map(unknown, ours.split("\n")) if name in docutils.known]
+            kind = kind_of(ours, theirs, docutils.known)
+            outcomes.append(Outcome(document, kind, seconds, spent, collections.Counter(names)))
+    return found
 
 
-def all_compared(program: str, work: str, documents: list[Document], jobs: int) -> dict[str, list[Outcome]]:
-    """All documents in all variants, each in a process of its own, as one of them changes Docutils for good."""
+def all_compared(program: list[str], wider: list[str], work: str, documents: list[Document], jobs: int) -> dict[str, list[Outcome]]:
+    """All documents in all variants, those of Docutils in a process each, as one of them changes Docutils for good."""
     with multiprocessing.Pool(jobs, maxtasksperchild=1) as pool:
-        begun = [pool.apply_async(compared, (variant, program, work, documents)) for variant in ("default", "plain")]
-        default, plain = (one.get() for one in begun)
+        first = pool.apply_async(compared, ("default", [program], work, documents))
+        second = pool.apply_async(compared, ("plain", [program, wider], work, documents))
+        (default,), (plain, more) = first.get(), second.get()
         differing = [one.document for one in plain if one.kind]
-        reduced = pool.apply(compared, ("reduced", program, work, differing))
-    return {"default": default, "plain": plain, "reduced": [one for one in plain if not one.kind] + reduced}
+        (reduced,) = pool.apply(compared, ("reduced", [program], work, differing))
+    return {"default": default, "plain": plain, "reduced": [one for one in plain if not one.kind] + reduced, "wider": more}
 
 
 def row(*cells: object) -> None:
@@ -182,21 +190,23 @@ def show_kinds(found: dict[str, list[Outcome]]) -> None:
     """The kinds of first differences."""
     table("The first difference of the others: documents", "kind", *VARIANTS)
     counts = {variant: collections.Counter(one.kind for one in found[variant] if one.kind) for variant in VARIANTS}
-    kinds = sorted(set().union(*counts.values()), key=lambda kind: [-counts[variant][kind] for variant in ("plain", "default", "reduced")])
+    order = ("plain", "wider", "default", "reduced")
+    kinds = sorted(set().union(*counts.values()), key=lambda kind: [-counts[variant][kind] for variant in order])
     for kind in kinds:
         row(kind, *(counts[variant][kind] for variant in VARIANTS))
 
 
-def show_left_out(outcomes: list[Outcome]) -> None:
-    """What Docutils knows and the profile leaves out, by how many documents have it."""
-    table("Left-out directives and roles", "name", "documents", "times")
-    documents = collections.Counter(name for one in outcomes for name in one.left_out)
-    times = sum((one.left_out for one in outcomes), collections.Counter())
-    for (kind, name), count in documents.most_common():
-        row(f"{kind} `{name}`", count, times[kind, name])
+def show_left_out(found: dict[str, list[Outcome]]) -> None:
+    """What Docutils knows and a profile leaves out, by how many documents have it."""
+    for variant, profile in (("plain", "the profile"), ("wider", "the wider profile")):
+        table(f"Directives and roles that {profile} leaves out", "name", "documents", "times")
+        documents = collections.Counter(name for one in found[variant] for name in one.left_out)
+        times = sum((one.left_out for one in found[variant]), collections.Counter())
+        for (kind, name), count in documents.most_common():
+            row(f"{kind} `{name}`", count, times[kind, name])
 
 
-def show_costs(found: dict[str, list[Outcome]], program: str, work: str) -> None:
+def show_costs(found: dict[str, list[Outcome]], program: list[str], work: str) -> None:
     """CPU seconds over all documents."""
     table("CPU seconds, user and system", "", "seconds")
     pathlib.Path(work, "empty.rst").write_bytes(b"")
@@ -204,6 +214,7 @@ def show_costs(found: dict[str, list[Outcome]], program: str, work: str) -> None
     costs = {
         "rst2pseudoxml, a process for each document": sum(one.ours for one in found["plain"]),
         "rst2pseudoxml, as many empty documents": start * len(found["plain"]),
+        "the wider profile, a process for each document": sum(one.ours for one in found["wider"]),
         "Docutils, one process": sum(one.theirs for one in found["default"]),
         "Docutils, one process, `--syntax-highlight=none`": sum(one.theirs for one in found["plain"]),
     }
@@ -224,11 +235,12 @@ def everything(given: argparse.Namespace, folder: pathlib.Path, work: pathlib.Pa
     if not documents:
         print("there are no documents", file=sys.stderr)
         return 1
-    found = all_compared(given.program, str(work), documents, given.jobs)
+    program, wider = [given.program], shlex.split(given.wider)
+    found = all_compared(program, wider, str(work), documents, given.jobs)
     show_sames(found, folder)
     show_kinds(found)
-    show_left_out(found["plain"])
-    show_costs(found, given.program, str(work))
+    show_left_out(found)
+    show_costs(found, program, str(work))
     for variant in VARIANTS if given.list else ():
         for one in found[variant]:
             if one.kind == given.list:
@@ -253,14 +265,16 @@ def main() -> int:
     parser = argparse.ArgumentParser(description="Compares trees of real documents with those of Docutils.")
     parser.add_argument("folder", nargs="?", help="where the packages are, or are unpacked; by default a temporary folder")
     parser.add_argument("--only", action="append", metavar="PACKAGE", help="this package alone, or these if given more than once")
-    parser.add_argument("--jobs", type=int, choices=(1, 2, 3), default=1, help="how many of the three run side by side")
+    parser.add_argument("--jobs", type=int, choices=(1, 2, 3), default=1, help="how many of the three variants of Docutils are read side by side")
     parser.add_argument("--list", metavar="KIND", help="names the documents whose first difference is of this kind")
     parser.add_argument("--program", default=str(TOP / "dist/rst2pseudoxml"), help="the program; by default the one in dist/")
+    parser.add_argument("--wider", metavar="COMMAND", default=WIDER, help="prints trees of the wider profile; by default rst-tree in dist/")
     given = parser.parse_args()
     given.program = os.path.abspath(given.program)
-    if not os.access(given.program, os.X_OK):
-        print(f"{given.program}: there is no such program", file=sys.stderr)
-        return 1
+    for program in given.program, shlex.split(given.wider)[0]:
+        if not os.access(program, os.X_OK):
+            print(f"{program}: there is no such program", file=sys.stderr)
+            return 1
     try:
         print(f"{time.strftime('%Y-%m-%d')}, {versions()}")
     except ImportError:

@@ -1,17 +1,17 @@
 #!/usr/bin/env bash
 # Fails if dist/ claims these sources and isn't byte for byte what they build here, if a checksum is wrong, or if the wheel isn't of the
 # sources of the Python package and of the library in dist/.
-# The static program is compared if this system has the C library that it was linked with. Needs the kit, and the program built
+# The static programs are compared if this system has the C library that they were linked with. Needs the kit, and the programs built
 # (scripts/build.sh). The status is 77 if there is nothing to compare.
 set -euo pipefail
 cd -- "$(dirname -- "$0")/.."
-static() {
+static() { # NAME
   local linked library
   linked=$(mktemp) && trap 'rm -f "$linked"' RETURN
-  if library=$(scripts/static.sh "$linked") && grep -qxF "static $library" dist/BUILT; then
-    cmp dist/rst2pseudoxml-static "$linked"
+  if library=$(scripts/static.sh "$1" "$linked") && grep -qxF "static $library" dist/BUILT; then
+    cmp "dist/$1-static" "$linked"
   else
-    echo "the static program isn't compared, since this system has another C library or no object file is left"
+    echo "the static $1 isn't compared, since this system has another C library or no object file is left"
   fi
 }
 
@@ -24,7 +24,7 @@ library() {
 
 (cd dist && sha256sum --quiet --check rst2pseudoxml.sha256)
 scripts/wheel.sh --check || [ $? = 77 ]
-if ! grep -qx "sources $(scripts/digest.sh)" dist/BUILT; then
+if ! grep -qx "rst2pseudoxml $(scripts/digest.sh)" dist/BUILT || ! grep -qx "rst-tree $(scripts/digest.sh rst-tree)" dist/BUILT; then
   echo "skipped: dist/ is of older sources; scripts/dist.sh renews it"
   exit 77
 elif ! command -v rt >/dev/null; then
@@ -35,7 +35,9 @@ elif ! grep -qxF "kit $(rt version)" dist/BUILT; then
   exit 77
 else
   cmp dist/rst2pseudoxml crates/rst2pseudoxml/out/rst2pseudoxml
-  static
+  cmp dist/rst-tree crates/rst_tree_program/out/rst_tree_program
+  static rst2pseudoxml
+  static rst-tree
   library
   echo "dist/ is what these sources build"
 fi

@@ -27,7 +27,8 @@ files() {
 }
 
 names() { # PROGRAM: what is installed by other names than in the checkout
-  printf './opt/rst/%s\n' "bin/$1" bin/rst-check bin/rst-lsp bin/rst-view "share/bash-completion/completions/$1" "share/fish/vendor_completions.d/$1.fish" "share/man/man1/$1.1" "share/zsh/site-functions/_$1"
+  printf './opt/rst/%s\n' "bin/$1" bin/rst-check bin/rst-lsp bin/rst-tree bin/rst-view {"share/bash-completion/completions/$1","share/fish/vendor_completions.d/$1.fish","share/man/man1/$1.1"} \
+    share/bash-completion/completions/rst-tree share/fish/vendor_completions.d/rst-tree.fish share/man/man1/rst-tree.1 "share/zsh/site-functions/_$1"
 }
 pages=$(cd "$top/docs" && printf './opt/rst/share/doc/rst2pseudoxml/%s\n' DOCUTILS.md INTEGRATIONS.md LIBRARY.md PROFILE.md profile/*)
 library=''
@@ -44,8 +45,9 @@ hello=$'<document source="<stdin>">\n    <paragraph>\n        Hello'
 same 'make install' '' "$(of_make install)"
 same 'what is installed' "$(all rst2pseudoxml)" "$(files)"
 same 'the program' "$hello" "$(printf 'Hello' | "$installed/bin/rst2pseudoxml" 2>&1)"
+same 'rst-tree' '["document",0,{},["paragraph",1,{},"Hello"]]' "$(printf 'Hello' | "$installed/bin/rst-tree" --format=json 2>&1)"
 same 'who may read' '' "$(find "$target" -type f ! -perm -a+r)"
-same 'what runs' "bin/rst-check bin/rst-lsp bin/rst-view bin/rst2pseudoxml ${library:+lib/librst2pseudoxml.so.1 }share/rst2pseudoxml/check-pages.sh share/rst2pseudoxml/check-trees.sh" \
+same 'what runs' "bin/rst-check bin/rst-lsp bin/rst-tree bin/rst-view bin/rst2pseudoxml ${library:+lib/librst2pseudoxml.so.1 }share/rst2pseudoxml/check-pages.sh share/rst2pseudoxml/check-trees.sh" \
   "$(cd "$installed" && find . -type f -perm -a+x | LC_ALL=C sort | sed 's|./||' | paste -sd ' ')"
 if [ -n "$library" ] && command -v cc >/dev/null && command -v pkg-config >/dev/null; then
   same 'make install-library' '' "$(make -s -C "$top" install-library DESTDIR= PREFIX="$folder/c" 2>&1)"
@@ -57,6 +59,8 @@ fi
 if command -v man >/dev/null; then
   same 'the manual page' 'rst2pseudoxml - print the document tree of reStructuredText as pseudo-XML' \
     "$(MANWIDTH=100 man -l "$installed/share/man/man1/rst2pseudoxml.1" 2>&1 | sed -n 's/^ *\(rst2pseudoxml - .*\)/\1/p')"
+  same 'the manual page of rst-tree' 'rst-tree - print the document tree of reStructuredText as pseudo-XML or JSON' \
+    "$(MANWIDTH=100 man -l "$installed/share/man/man1/rst-tree.1" 2>&1 | sed -n 's/^ *\(rst-tree - .*\)/\1/p')"
 fi
 
 # The completions of a line's arguments, of which the last is completed, one after the other.
@@ -64,10 +68,11 @@ fi
 . "$installed/share/bash-completion/completions/rst2pseudoxml"
 mkdir documents documents/part
 touch 'documents/a page.rst' documents/notes.txt documents/tool.py
+command=rst2pseudoxml
 completed() { # WORD..
-  COMP_WORDS=(rst2pseudoxml "$@")
+  COMP_WORDS=("$command" "$@")
   COMP_CWORD=$#
-  _rst2pseudoxml
+  _rst2pseudoxml "$command"
   (IFS='|' && echo "${COMPREPLY[*]}")
 }
 levels='info|warning|error|severe|none|1|2|3|4|5'
@@ -83,19 +88,28 @@ same 'numbers' '' "$(completed --tab-width = '')"
 same 'documents' 'documents/a page.rst|documents/notes.txt|documents/part' "$(completed --strict documents/)"
 same 'another file' 'documents/tool.py' "$(completed documents/to)"
 same 'after the options' '' "$(completed -- --ha)"
-documented=$(sed -n 's/^| \(`-[^|]*\)|.*/\1/p' "$top/docs/profile/options.md" | grep -o -- '--*[a-z][a-z-]*' | sort)
+page=$top/docs/profile/options.md
+options_of() { sed -n 's/^| \(`-[^|]*\)|.*/\1/p' | grep -o -- '--*[a-zA-Z][a-z-]*' | sort; }
+documented=$(sed '/^## The options of rst-tree/q' "$page" | options_of)
+of_tree=$(options_of <"$page")
 same 'the options of the page' "$documented" "$(completed - | tr '|' '\n' | tr -d = | sort)"
+command=rst-tree
+same 'the options of rst-tree' "$of_tree" "$(completed - | tr '|' '\n' | tr -d = | sort)"
+same 'formats' 'pseudoxml|json' "$(completed --format = '')"
+same 'a profile' '--profile=base' "$(completed --profile=b)"
 
 # zsh and fish.
 if command -v zsh >/dev/null; then
   same 'zsh' '' "$(zsh -fc "fpath=('$installed/share/zsh/site-functions' \$fpath); autoload -U compinit && compinit -D -u && autoload +X _rst2pseudoxml" 2>&1)"
-  same 'the options in zsh' "$documented" "$(grep -o '[{"(,]-[a-z]*[+,}=]\|--[a-z-]*[=[}]' "$installed/share/zsh/site-functions/_rst2pseudoxml" | tr -d '{}"(,+=[' | sort -u)"
+  same 'the options in zsh' "$of_tree" "$(grep -o '[{"(,]-[a-zA-Z]*[+,}=]\|--[a-z-]*[=[}]' "$installed/share/zsh/site-functions/_rst2pseudoxml" | tr -d '{}"(,+=[' | sort -u)"
 else
   echo "skipped: the completion of zsh, as there is none"
 fi
 if command -v fish >/dev/null; then
   same 'fish' "$(tr ' ' '\n' <<<"$documented" | grep -- -- | sort)" \
     "$(HOME=$folder fish -c "set fish_complete_path $(printf %q "$installed")/share/fish/vendor_completions.d; complete -C 'rst2pseudoxml --'" 2>&1 | sed 's/[=[:space:]].*//' | sort)"
+  same 'fish, rst-tree' "$(grep -- -- <<<"$of_tree")" \
+    "$(HOME=$folder fish -c "set fish_complete_path $(printf %q "$installed")/share/fish/vendor_completions.d; complete -C 'rst-tree --'" 2>&1 | sed 's/[=[:space:]].*//' | sort)"
 else
   echo "skipped: the completion of fish, as there is none"
 fi
@@ -106,11 +120,11 @@ same 'what is left' '' "$(files)"
 
 # Another name: what is installed runs the program of that name, wherever the PATH leads.
 of_make() { # TARGET
-  make -s -C "$top" "$1" DESTDIR= PREFIX="$installed" PROGRAM=rst-tree MANPAGE=tree.1 2>&1 || echo "status $?"
+  make -s -C "$top" "$1" DESTDIR= PREFIX="$installed" PROGRAM=rst-xml MANPAGE=xml.1 2>&1 || echo "status $?"
 }
 same 'make install, another name' '' "$(of_make install)"
-same 'what is installed, another name' "$(all rst-tree | sed 's|man1/rst-tree|man1/tree|' | LC_ALL=C sort)" "$(files)"
-same 'the program, another name' "$hello" "$(printf 'Hello' | "$installed/bin/rst-tree" 2>&1)"
+same 'what is installed, another name' "$(all rst-xml | sed 's|man1/rst-xml|man1/xml|' | LC_ALL=C sort)" "$(files)"
+same 'the program, another name' "$hello" "$(printf 'Hello' | "$installed/bin/rst-xml" 2>&1)"
 printf 'A *word\n' >page.rst
 warning='page.rst:1: (WARNING/2) Inline emphasis start-string without end-string.'
 printf ':ref:`a`\n' >known.rst
@@ -128,13 +142,13 @@ rm known.rst
 same 'check-trees.sh' $'written: ./page.tree\nstatus 0' "$("$installed/share/rst2pseudoxml/check-trees.sh" --update . 2>&1; echo "status $?")"
 same 'the command of Flycheck and of VS Code' "\"$installed/bin/rst-check\" \"$installed/bin/rst-check\"" \
   "$(cd "$installed/share/rst2pseudoxml" && grep -ho '"[^"]*rst-check"' flycheck-rst2pseudoxml.el vscode-tasks.json | paste -sd ' ')"
-same 'the name in completions' '1 1 10' "$(cd "$installed/share" && grep -ch -- ' rst-tree\( \|$\)' bash-completion/completions/rst-tree zsh/site-functions/_rst-tree fish/vendor_completions.d/rst-tree.fish | paste -sd ' ')"
-same 'the name in the page' '0' "$(grep -c '^\.[BI].* rst2pseudoxml' "$installed/share/man/man1/tree.1")"
+same 'the name in completions' '1 1 1' "$(cd "$installed/share" && grep -ch -- ' rst-xml\( \|$\)' bash-completion/completions/rst-xml zsh/site-functions/_rst-xml fish/vendor_completions.d/rst-xml.fish | paste -sd ' ')"
+same 'the name in the page' '0' "$(cat "$installed"/share/man/man1/*.1 | grep -c '^\.[BI].* rst2pseudoxml')"
 if [ "$("$top/scripts/program.sh")" != "$("$top/scripts/program.sh" --static)" ]; then
   of_make install >/dev/null
-  same 'the static program' '' "$(cmp "$installed/bin/rst-tree" "$("$top/scripts/program.sh" --static)" 2>&1)"
-  make -s -C "$top" install STATIC=no DESTDIR= PREFIX="$installed" PROGRAM=rst-tree MANPAGE=tree.1
-  same 'the other program' '' "$(cmp "$installed/bin/rst-tree" "$("$top/scripts/program.sh")" 2>&1)"
+  same 'the static programs' '' "$(cmp "$installed/bin/rst-xml" "$("$top/scripts/program.sh" --static)" 2>&1; cmp "$installed/bin/rst-tree" "$("$top/scripts/program.sh" --static rst-tree)" 2>&1)"
+  make -s -C "$top" install STATIC=no DESTDIR= PREFIX="$installed" PROGRAM=rst-xml MANPAGE=xml.1
+  same 'the other programs' '' "$(cmp "$installed/bin/rst-xml" "$("$top/scripts/program.sh")" 2>&1; cmp "$installed/bin/rst-tree" "$("$top/scripts/program.sh" rst-tree)" 2>&1)"
 fi
 same 'make uninstall, another name' '' "$(of_make uninstall)"
 same 'what is left, another name' '' "$(files)"

@@ -43,7 +43,7 @@ HOLD = {
     "Cell": "CellLines", "CellLines": "String", "GridLines": "TableLine", "Place": "char", "Ranks": "Tiling", "Rows": "Cell",
     "Runs": "TableLine", "SimpleLines": "TableLine", "TableLine": "Place", "TableResult": "Rows", "Tiling": "TableLine",
     # directives
-    "Argument": "String", "Detail": "String", "Directive": "Argument DirectiveFault Setting", "DirectiveFault": "Detail", "Field": "char",
+    "Argument": "String", "Detail": "String", "Directive": "Argument DirectiveFault Setting", "DirectiveFault": "Detail String", "Field": "char",
     "Found": "Argument Setting", "OptionMark": "Argument", "OptionValue": "String Target", "Reading": "Argument Setting", "Setting": "OptionValue",
     "Target": "String",
     # blocks
@@ -51,11 +51,11 @@ HOLD = {
     "OpenBlock": "Heading Run", "OpenList": "ListKind", "OpenReplacement": "String", "Run": "BarText OpenList", "Sections": "Style",
     "Step": "TableResult Waits", "Waits": "OpenReplacement", "WrongForm": "str",
     # functions
-    "add_line": "char", "alone": "N", "definition_or_error": "String", "from": "E", "heading_of": "String",
-    "joined_nonempty": "char", "option": "str", "push": "N", "replacement": "String", "shortened": "String",
+    "add_line": "char", "alone": "N", "definition_of": "String", "definition_or_error": "String", "from": "E", "heading_of": "String",
+    "joined_nonempty": "char", "mailed": "String", "option": "str", "push": "N", "replacement": "String", "shortened": "String",
     MACHINE: "Begun Cell Ended Frame Frames LineTest Lines OpenBlock Rows Step TableResult Waits",
 }
-# How many lines there are, their numbers, where they are, and which parts of the markup hold in them; how views and lines are made.
+# How many lines there are, their numbers, where they are, and which parts of the wider profile hold in them; how views and lines are made.
 FREE = {
     "View": "Clone Copy whole placement at len number part parts",
     "Lines": "Debug Drop Model of within numbered count line",

@@ -72,14 +72,14 @@ same 'a folder as input' '1 rst2pseudoxml: read failed' "$? $(cat out err)"
 # A copy of what ./rst2pseudoxml reads of the checkout, with the program in dist/, as on a fresh one, and a PATH without the kit and bash.
 copy="$folder/a copy"
 mkdir "$copy" tools
-(cd "$top" && tar --exclude='rst2pseudoxml-static' -cf - rst2pseudoxml crates.txt crates/*/src scripts dist) | tar -C "$copy" -xf -
+(cd "$top" && tar --exclude='*-static' -cf - rst2pseudoxml crates.txt crates/*/src scripts dist) | tar -C "$copy" -xf -
 cp "$("$top/scripts/program.sh")" "$copy/dist/rst2pseudoxml"
 built=$copy/crates/rst2pseudoxml/out/rst2pseudoxml
 source=$copy/crates/rst_text/src/lib.rt
 cp -p "$source" before
 sums() { (cd "$copy/dist" && sha256sum rst2pseudoxml* | grep -v sha256 >rst2pseudoxml.sha256); }
 sums
-sed -i "s/^sources .*/sources $("$copy/scripts/digest.sh")/" "$copy/dist/BUILT"
+sed -i "s/^rst2pseudoxml .*/rst2pseudoxml $("$copy/scripts/digest.sh")/" "$copy/dist/BUILT"
 for tool in awk cat cut dirname find grep readlink sed sha256sum sort touch xargs; do
   ln -s "$(command -v "$tool")" tools/
 done
@@ -206,9 +206,9 @@ same 'the shipped program' "$copy/dist/rst2pseudoxml"$'\nstatus 0' "$(of_sources
 mv "$crate" "$crate.old"
 same 'a crate renamed' $'rst2pseudoxml: crates.txt names rst_text, and there is no folder crates/rst_text/src\nstatus 1' "$(of_sources)"
 mv "$crate.old" "$crate"
-sed -i 's/^sources ./sources x/' "$copy/dist/BUILT"
+sed -i 's/^rst2pseudoxml ./rst2pseudoxml x/' "$copy/dist/BUILT"
 same 'a program of other sources' "$others"$'\nstatus 1' "$(of_sources)"
-sed -i "s/^sources .*/sources $("$copy/scripts/digest.sh")/" "$copy/dist/BUILT"
+sed -i "s/^rst2pseudoxml .*/rst2pseudoxml $("$copy/scripts/digest.sh")/" "$copy/dist/BUILT"
 printf '#!/bin/sh\nexit 127\n' >"$copy/dist/rst2pseudoxml"
 same 'a damaged program' "$damaged" "$(of_sources)"
 sums

@@ -1,17 +1,15 @@
 #!/bin/sh
-# Prints the digest of the sources that a build of the program depends on, or of the library with the argument `library`: those of its crate
-# and of the crates that it uses by crates.txt, with their lines there. Other crates (those of tests) don't count, nor do comments in
-# crates.txt and the modules that main.rt, or lib.rt, compiles under test alone.
+# Prints the digest of the sources that a build of a program, or of the library, depends on: scripts/digest.sh [NAME], where NAME is
+# rst2pseudoxml, rst-tree or library. They are those of its crate and of the crates that it uses by crates.txt, with their lines there. Other
+# crates (those of tests) don't count, nor do comments in crates.txt and the modules that main.rt, or lib.rt, compiles under test alone.
 set -eu
 cd -- "$(dirname -- "$0")/.."
-case ${1-} in
-  library) crate=rst_c root=lib.rt ;;
-  *) crate=rst2pseudoxml root=main.rt ;;
-esac
+name=${1-}
+. scripts/names.sh
 src=crates/$crate/src
 
 # The lines of crates.txt for that crate and all that it uses, each once, in the order in which they are needed.
-lines=$(awk -v crate=$crate '
+lines=$(awk -v crate="$crate" '
   function need(name,    count, i, below) {
     if (!(name in line)) return
     print line[name]
@@ -31,7 +29,7 @@ lines=$(awk -v crate=$crate '
 set --
 for used in $(printf '%s\n' "$lines" | sed 's/[: ].*//'); do
   if [ ! -d "crates/$used/src" ]; then
-    echo "rst2pseudoxml: crates.txt names $used, and there is no folder crates/$used/src" >&2
+    echo "$name: crates.txt names $used, and there is no folder crates/$used/src" >&2
     exit 1
   fi
   set -- "$@" "crates/$used/src"

@@ -8,8 +8,7 @@ text it checks that `print` gives the program's output, its messages and its sta
 shows the same messages. The program is the one that scripts/program.sh finds.
 
 Under the wider profile, which the program hasn't, the calls are compared with the trees and messages of scripts/wider.py; and with the program
-on texts that both profiles read alike, which are the worked rows without a colon before a backquote, and those named there. That a profile
-of 2 or 255 is refused is tested too.
+on texts that both profiles read alike, which are the worked rows and those named there. That a profile of 2 or 255 is refused is tested too.
 """
 
 import concurrent.futures
@@ -162,8 +161,7 @@ def trials():
         for name, words, given, (_, err, status) in Source(table).rows():
             if status != 2 and not err.startswith("rst2pseudoxml: cannot open"):
                 yield name, words, given.encode()
-                if ":`" not in given:
-                    yield f"{name}, under the wider profile", [*words, WIDER_PROFILE], given.encode()
+                yield f"{name}, under the wider profile", [*words, WIDER_PROFILE], given.encode()
     yield from ((f"{name}, {words}", words, text.encode()) for name, text in SAME for words in ([], [WIDER_PROFILE]))
     yield from ((f"{count} tables", [], tables(count)) for count in (250, 251))
     choose = random.Random(1)

@@ -116,6 +116,7 @@ def lists():
     profile, lines = PROFILE.read_text(encoding="utf-8"), {level: [] for level in LEVELS}
     names = re.findall(r"^\| \[(.+?)\]\(profile/(\w+\.md)\)", profile, re.M)
     pages = [(f"[{name}]({file})", (PAGE.parent / file).read_text(encoding="utf-8")) for name, file in names if file not in ("options.md", PAGE.name)]
+    pages.append(("[the wider profile](wider.md)", (PAGE.parent / "wider.md").read_text(encoding="utf-8")))
     pages.append(("[the profile](../PROFILE.md)", profile))
     examples = ["\n".join(lines_of(clause)) for _, _, clauses in functions() for _, clause in clauses]
     shown = "\n\n".join(examples + [page for _, page in pages])

@@ -24,19 +24,20 @@ The last sections aren't of the standard: those of [the command line](profile/op
 # the documents, each with its sections in their order: those of the standard first
 SECTIONS = {
     "Markup Specification": """Whitespace; Indentation; Escaping Mechanism; Reference Names; Document; Document Title; Sections; Transitions;
-        Body Elements; Paragraphs; Bullet Lists; Enumerated Lists; Definition Lists; Field Lists; Bibliographic Fields; Option Lists; Literal Blocks;
+        Body Elements; Paragraphs; Bullet Lists; Enumerated Lists; Definition Lists; Field Lists; Bibliographic Fields; RCS Keywords; Option Lists; Literal Blocks;
         Indented Literal Blocks; Quoted Literal Blocks; Line Blocks; Block Quotes; Doctest Blocks; Grid Tables; Simple Tables;
         Explicit Markup Blocks; Footnotes; Auto-Numbered Footnotes; Auto-Symbol Footnotes; Citations; Hyperlink Targets; Anonymous Hyperlinks;
         Directives; Substitution Definitions; Comments; Implicit Hyperlink Targets; Inline Markup; Inline markup recognition rules; Emphasis;
         Strong Emphasis; Interpreted Text; Inline Literals; Hyperlink References; Embedded URIs and Aliases; Inline Internal Targets;
         Footnote References; Citation References; Substitution References; Standalone Hyperlinks; Units; Length Units; Percentage Units;
         Error Handling""",
-    "Directives": """Specific Admonitions; Generic Admonition; Image; Figure; Topic; Code; Replacement Text; Common Options; Identifier Normalization""",
+    "Directives": """Specific Admonitions; Generic Admonition; Image; Figure; Topic; Code; Parsed Literal Block; Rubric; Compound Paragraph; Container;
+        Replacement Text; Including an External Document Fragment; Raw Data Pass-Through; Common Options; Identifier Normalization""",
     "Roles": "Standard Roles",
     "Document Tree": "Introduction; Element Reference; Attribute Reference",
     "Configuration": """docinfo_xform; doctitle_xform; exit_status_level; halt_level; input_encoding; line_length_limit; report_level; tab_width""",
     # pages of this repository, and its header
-    "The command line": "Options; Faults",
+    "The command line": "Options; Faults; The options of rst-tree",
     "JSON": "The document; The messages; Strings",
     "Records": "Nodes and attributes",
     "Header": "rst_options; rst_end; rst_print; rst_json; rst_messages",

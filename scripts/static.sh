@@ -1,13 +1,14 @@
 #!/usr/bin/env bash
-# Links the program that was built here with this system's static C library and writes it to FILE: scripts/static.sh FILE.
+# Links a program that was built here with this system's static C library and writes it to FILE: scripts/static.sh NAME FILE.
 # Prints the library, which decides the bytes with the object file. The status is 77 if there is no such library, or no object file.
 set -euo pipefail
 cd -- "$(dirname -- "$0")/.."
-file=${1-}
+name=${1-} file=${2-}
 case $file in
-'' | -*) echo "usage: scripts/static.sh FILE" >&2 && exit 2 ;;
+'' | -*) echo "usage: scripts/static.sh NAME FILE" >&2 && exit 2 ;;
 esac
-object=crates/rst2pseudoxml/out/rst2pseudoxml.o
+. scripts/names.sh
+object=crates/$crate/out/$crate.o
 part() { gcc -print-file-name="$1"; }
 if [ ! -e "$object" ] || ! command -v gcc >/dev/null || [ ! -e "$(part libc.a)" ]; then
   echo "skipped: linking a static program takes $object, gcc and a static C library" >&2

@@ -1,6 +1,7 @@
 """Worked examples of the wider profile (docs/profile/wider.md), for the tests of the library and of the Python package.
 
-The trees and messages are those of Docutils 0.19 with `--syntax-highlight=none --halt=5`. The texts of SAME are read alike by both profiles.
+The trees and messages are those of Docutils 0.19 with `--syntax-highlight=none --no-file-insertion --halt=5`; but its message on a file that isn't
+read has no source text on standard error. The texts of SAME are read alike by both profiles.
 """
 
 # A name, a text, and its tree and messages under the wider profile; under the other one they differ.
@@ -116,6 +117,353 @@ WIDER = [
 <stdin>:2: (ERROR/3) Unknown interpreted text role "ref".
 """,
     ),
+    (
+        "an e-mail address",
+        "Write to me@example.org.\n",
+        """\
+<document source="<stdin>">
+    <paragraph>
+        Write to 
+        <reference refuri="mailto:me@example.org">
+            me@example.org
+        .
+""",
+        "",
+    ),
+    (
+        "a target that is an address",
+        ".. _me: me@example.org\n\nAsk me_.\n",
+        """\
+<document source="<stdin>">
+    <target ids="me" names="me" refuri="mailto:me@example.org">
+    <paragraph>
+        Ask 
+        <reference name="me" refuri="mailto:me@example.org">
+            me
+        .
+""",
+        "",
+    ),
+    (
+        "an escaped at sign",
+        "me\\@example.org and m\\e@example.org\n",
+        """\
+<document source="<stdin>">
+    <paragraph>
+        me@example.org and 
+        <reference refuri="mailto:me@example.org">
+            me@example.org
+""",
+        "",
+    ),
+    (
+        "an empty phrase",
+        "`<me@example.org>`_ and `<me@example.org>`__\n",
+        """\
+<document source="<stdin>">
+    <paragraph>
+        <reference name="mailto:me@example.org" refuri="mailto:me@example.org">
+            mailto:me@example.org
+        <target ids="mailto-me-example-org" names="mailto:me@example.org" refuri="mailto:me@example.org">
+         and 
+        <reference name="mailto:me@example.org" refuri="mailto:me@example.org">
+            mailto:me@example.org
+""",
+        "",
+    ),
+    (
+        "numbers of documents",
+        "See :pep:`8` and :PEP:`0257`.\n",
+        """\
+<document source="<stdin>">
+    <paragraph>
+        See 
+        <reference refuri="https://peps.python.org/pep-0008">
+            PEP 8
+         and 
+        <reference refuri="https://peps.python.org/pep-0257">
+            PEP 0257
+        .
+""",
+        "",
+    ),
+    (
+        "wrong numbers",
+        ":pep:`x` and :pep:`10000`\n",
+        """\
+<document source="<stdin>">
+    <paragraph>
+        <problematic ids="problematic-1" refid="system-message-1">
+            :pep:`x`
+         and 
+        <problematic ids="problematic-2" refid="system-message-2">
+            :pep:`10000`
+    <system_message backrefs="problematic-1" ids="system-message-1" level="3" line="1" source="<stdin>" type="ERROR">
+        <paragraph>
+            PEP number must be a number from 0 to 9999; "x" is invalid.
+    <system_message backrefs="problematic-2" ids="system-message-2" level="3" line="1" source="<stdin>" type="ERROR">
+        <paragraph>
+            PEP number must be a number from 0 to 9999; "10000" is invalid.
+""",
+        """\
+<stdin>:1: (ERROR/3) PEP number must be a number from 0 to 9999; "x" is invalid.
+<stdin>:1: (ERROR/3) PEP number must be a number from 0 to 9999; "10000" is invalid.
+""",
+    ),
+    (
+        "a number with a fragment",
+        "See :rfc:`2822` and :rfc:`2822#section-3`.\n",
+        """\
+<document source="<stdin>">
+    <paragraph>
+        See 
+        <reference refuri="https://tools.ietf.org/html/rfc2822.html">
+            RFC 2822
+         and 
+        <reference refuri="https://tools.ietf.org/html/rfc2822.html#section-3">
+            RFC 2822
+        .
+""",
+        "",
+    ),
+    (
+        "roles of elements",
+        ":ac:`XML` :abbreviation:`ca.` :math:`\\alpha` :code:`a\\*b` :Sub:`2`\n",
+        """\
+<document source="<stdin>">
+    <paragraph>
+        <acronym>
+            XML
+         
+        <abbreviation>
+            ca.
+         
+        <math>
+            \\alpha
+         
+        <literal classes="code">
+            a\\*b
+         
+        <subscript>
+            2
+""",
+        "",
+    ),
+    (
+        "roles that make nothing",
+        ":raw:`<b>` `a`:index:\n",
+        """\
+<document source="<stdin>">
+    <paragraph>
+        <problematic ids="problematic-1" refid="system-message-1">
+            :raw:`<b>`
+         
+        <problematic ids="problematic-2" refid="system-message-2">
+            `a`:index:
+    <system_message backrefs="problematic-1" ids="system-message-1" level="3" line="1" source="<stdin>" type="ERROR">
+        <paragraph>
+            No format (Writer name) is associated with this role: "raw".
+            The "raw" role cannot be used directly.
+            Instead, use the "role" directive to create a new role with an associated format.
+    <system_message backrefs="problematic-2" ids="system-message-2" level="3" line="1" source="<stdin>" type="ERROR">
+        <paragraph>
+            Interpreted text role "index" not implemented.
+""",
+        """\
+<stdin>:1: (ERROR/3) No format (Writer name) is associated with this role: "raw".
+The "raw" role cannot be used directly.
+Instead, use the "role" directive to create a new role with an associated format.
+<stdin>:1: (ERROR/3) Interpreted text role "index" not implemented.
+""",
+    ),
+    (
+        "a rubric",
+        ".. rubric:: Small\n   :class: c\n   :name: My Name\n\nSee `my name`_.\n",
+        """\
+<document source="<stdin>">
+    <rubric classes="c" ids="my-name" names="my\\ name">
+        Small
+    <paragraph>
+        See 
+        <reference name="my name" refid="my-name">
+            my name
+        .
+""",
+        "",
+    ),
+    (
+        "a message of a rubric",
+        ".. rubric:: a *b\n\nText.\n",
+        """\
+<document source="<stdin>">
+    <rubric>
+        a 
+        <problematic ids="problematic-1" refid="system-message-1">
+            *
+        b
+    <system_message backrefs="problematic-1" ids="system-message-1" level="2" line="1" source="<stdin>" type="WARNING">
+        <paragraph>
+            Inline emphasis start-string without end-string.
+    <paragraph>
+        Text.
+""",
+        """\
+<stdin>:1: (WARNING/2) Inline emphasis start-string without end-string.
+""",
+    ),
+    (
+        "raw data",
+        ".. raw:: HTML  latex\n   :class: c\n\n   x\n",
+        """\
+<document source="<stdin>">
+    <raw classes="c" format="html latex" xml:space="preserve">
+        x
+""",
+        "",
+    ),
+    (
+        "raw data in a substitution",
+        ".. |br| raw:: html\n\n   <br>\n\na |br| b\n",
+        """\
+<document source="<stdin>">
+    <substitution_definition names="br">
+        <raw format="html" xml:space="preserve">
+            <br>
+    <paragraph>
+        a 
+        <raw format="html" xml:space="preserve">
+            <br>
+         b
+""",
+        "",
+    ),
+    (
+        "a parsed literal",
+        ".. parsed-literal::\n\n   a *b* c_\n     ``d``\n\n   e\n\n.. _c: u\n",
+        """\
+<document source="<stdin>">
+    <literal_block xml:space="preserve">
+        a 
+        <emphasis>
+            b
+         
+        <reference name="c" refuri="u">
+            c
+        
+          
+        <literal>
+            d
+        
+        
+        e
+    <target ids="c" names="c" refuri="u">
+""",
+        "",
+    ),
+    (
+        "a parsed literal with text beside its mark",
+        ".. parsed-literal:: a\n   b\n",
+        """\
+<document source="<stdin>">
+    <literal_block xml:space="preserve">
+        a
+        b
+""",
+        "",
+    ),
+    (
+        "a file that isn't read",
+        ".. include:: a.txt\n   :start-line: 1\n",
+        """\
+<document source="<stdin>">
+    <system_message level="2" line="1" source="<stdin>" type="WARNING">
+        <paragraph>
+            "include" directive disabled.
+        <literal_block xml:space="preserve">
+            .. include:: a.txt
+               :start-line: 1
+""",
+        """\
+<stdin>:1: (WARNING/2) "include" directive disabled.
+
+.. include:: a.txt
+   :start-line: 1
+""",
+    ),
+    (
+        "compound and container",
+        ".. container:: a b\n   :name: n\n\n   x\n\n.. compound::\n   :class: c\n\n   y\n",
+        """\
+<document source="<stdin>">
+    <container classes="a b" ids="n" names="n">
+        <paragraph>
+            x
+    <compound classes="c">
+        <paragraph>
+            y
+""",
+        "",
+    ),
+    (
+        "a blank line after a directive's first",
+        ".. note::\n\n   :class: x\n\n   t\n",
+        """\
+<document source="<stdin>">
+    <note>
+        <field_list>
+            <field>
+                <field_name>
+                    class
+                <field_body>
+                    <paragraph>
+                        x
+        <paragraph>
+            t
+""",
+        "",
+    ),
+    (
+        "keywords of RCS",
+        ":Date: $Date: 2005/12/30 10:11:12 $\n:Revision: $Revision: 4231 $\n:Version: $RCSfile: a.txt,v $\n",
+        """\
+<document source="<stdin>">
+    <docinfo>
+        <date>
+            2005-12-30
+        <revision>
+            4231
+        <version>
+            a.txt
+""",
+        "",
+    ),
+    (
+        "keywords in other fields",
+        ":Date: x $Date: 2005-12-30T10:11:12Z (Fri) $ y $Id: z $\n:Other: $Id: a b $ c\n:More: *x* $Id: a $\n:Copyright: $Date$ $id: q $\n",
+        """\
+<document source="<stdin>">
+    <docinfo>
+        <date>
+            x 2005-12-30 y $Id: z $
+        <field classes="other">
+            <field_name>
+                Other
+            <field_body>
+                <paragraph>
+                    a b c
+        <field classes="more">
+            <field_name>
+                More
+            <field_body>
+                <paragraph>
+                    <emphasis>
+                        x
+                     $Id: a $
+        <copyright>
+            $Date$ q
+""",
+        "",
+    ),
 ]
 
 SAME = [
@@ -123,4 +471,9 @@ SAME = [
     ("an escaped colon", ":a\\:`b`: d\n"),
     ("a colon inside a name", ":a:b: c\n"),
     ("a role behind a word", "a :sub:`b`: c\n"),
+    ("at signs alone", "a @ b@c d@ @e\n"),
+    ("numbers without a role", "PEP 8 and RFC 2822\n"),
+    ("the name of a directive before a literal block", "raw::\n\n   a\n"),
+    ("a keyword in a paragraph", "a $Id: b $\n"),
+    ("a blank line before the content", ".. note:: a\n\n   :b: c\n"),
 ]

@@ -30,7 +30,6 @@ SETTINGS = {
     "warning_stream": False,
     "syntax_highlight": "none",
     "file_insertion_enabled": False,
-    "raw_enabled": False,
     "output_encoding": "unicode",
     "use_latex_citations": False,
     "legacy_column_widths": True,

@@ -4,7 +4,7 @@
 use super::whole_document::DOCUMENT;
 use rst_settings::Settings;
 use rst_text::Counted;
-use rst2pseudoxml_options::{OptionFault, options};
+use rst2pseudoxml_options::{Format, OptionFault, options};
 use rst2pseudoxml_run::{End, run};
 use std::alloc::{AllocError, Global};
 use std::process::Abort;
@@ -28,6 +28,7 @@ fn run_once(alloc: Global, settings: &Settings) -> Result<Answer, AllocError> {
     let end = run(
         alloc,
         settings,
+        Format::PseudoXml,
         "<stdin>",
         &mut input,
         &mut Counted::of(&mut out),

@@ -1,6 +1,6 @@
 //! Tables of inputs with what the program prints for each.
 use rst_text::Counted;
-use rst2pseudoxml_options::options;
+use rst2pseudoxml_options::{Format, options};
 use rst2pseudoxml_run::{Stop, report, run};
 use std::alloc::Global;
 use std::process::Abort;
@@ -56,11 +56,17 @@ pub(super) fn output_of(alloc: Global, words: &str, input: &[u8]) -> Result<Outp
         let mut err = Counted::of(&mut err);
         let stop = match options(alloc, words.as_slice()) {
             Ok((settings, _)) => Stop::Ran(run(
-                alloc, &settings, "<stdin>", &mut input, &mut out, &mut err,
+                alloc,
+                &settings,
+                Format::PseudoXml,
+                "<stdin>",
+                &mut input,
+                &mut out,
+                &mut err,
             )),
             Err(fault) => Stop::Options(fault),
         };
-        report(&stop, &mut err)
+        report("rst2pseudoxml", &stop, &mut err)
     };
     Ok(Output { out, err, status })
 }

@@ -5,7 +5,7 @@ ghost use Rattle.rst_text.specs.Counted.{has_failed};
 use super::whole_document::DOCUMENT;
 use rst_settings::Settings;
 use rst_text::{Counted, ReadCall};
-use rst2pseudoxml_options::OptionFault;
+use rst2pseudoxml_options::{Format, OptionFault};
 use rst2pseudoxml_run::{End, Stop, report, run};
 use std::alloc::Global;
 use std::io::{Error, ErrorKind, Read, Result, Write};
@@ -99,6 +99,7 @@ fn run_between<R: ReadCall>(
     let end = run(
         alloc,
         &Settings::usual(),
+        Format::PseudoXml,
         "<stdin>",
         input,
         &mut Counted::of(&mut out),
@@ -435,12 +436,12 @@ fn reports_each_stop(rt: HostRuntime) -> std::result::Result<(), Fail> {
     for (stop, want, status) in &rows {
         for step in [1usize, 1000] {
             let mut err = Counted::of(Narrow::new(rt.alloc(), 100, step, true));
-            assert_eq!(rt; report(stop, &mut err), *status);
+            assert_eq!(rt; report("rst2pseudoxml", stop, &mut err), *status);
             assert_eq!(rt; err.inner().written.as_slice(), want.as_bytes());
             assert!(rt; !err.failed());
         }
         let mut full = Counted::of(Narrow::new(rt.alloc(), 10, 4, false));
-        assert_eq!(rt; report(stop, &mut full), *status);
+        assert_eq!(rt; report("rst2pseudoxml", stop, &mut full), *status);
         assert_eq!(rt; full.failed(), !want.is_empty());
     }
     Ok(())

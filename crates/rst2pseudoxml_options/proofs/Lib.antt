@@ -1,4 +1,5 @@
 pub mod Computing
 pub mod CommandLemmas
+pub mod TreeLemmas
 pub mod OptionsLemmas
 pub mod ValuesLemmas

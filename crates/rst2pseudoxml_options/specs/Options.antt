@@ -15,7 +15,7 @@ use Rattle.rst2pseudoxml_options.specs.Command.{faults_at, rows_at, is_given, is
 use Rattle.rst2pseudoxml_options.specs.Values.{threshold_or, tab_or, limit_or}
 
 -- what settings consist of: from which levels on messages are printed, halt and set the exit status, whether a lone title and a leading
--- field list are transformed, the tab width, the most characters of a line, and the parts of the markup that are asked for
+-- field list are transformed, the tab width, the most characters of a line, and the parts of the wider profile that are asked for
 pub record Choice : Type 0 where
   pub report : Threshold
   pub halt : Threshold

@@ -7,15 +7,20 @@ ghost use Rattle.rst2pseudoxml_options.specs.Options.{Chooses};
 mod choice;
 mod command;
 mod fault;
+mod format;
 mod found;
 pub mod rows;
+mod tree;
+mod tree_command;
 mod values;
 
 use choice::choice_of;
 pub use fault::OptionFault;
+pub use format::Format;
 use found::{matches_of, text_of};
 use rst_settings::Settings;
 use std::alloc::Global;
+pub use tree::tree_options;
 
 /// The settings that the words choose, and SOURCE as written, if they name one; the words are those after the
 /// program's name.

@@ -2,11 +2,13 @@
 #![tactic(auto, unfolding(crate::proofs::Computing::rst2pseudoxml_options))]
 
 ghost use Rattle.std.specs.Prelude.{◌≡◌, [], ◌∷◌, Some, None, codes, true, false, map};
-ghost use Rattle.rst_settings.specs.Parts.{no_parts};
+ghost use Rattle.clap.specs.declared.error.kind.ErrorKind.TheVariants.{ArgumentConflict, DisplayHelp, DisplayVersion, InvalidValue, UnknownArgument, ValueValidation};
+ghost use Rattle.rst_settings.specs.Parts.{all_parts, no_parts};
 ghost use Rattle.rst_settings.specs.declared.Threshold.TheVariants.{Info, Warning, Error, Severe, Never};
 ghost use Rattle.rst2pseudoxml_options.specs.Options.{usual};
 ghost use Rattle.rst2pseudoxml_options.specs.Values.{threshold_of};
-ghost use Rattle.rst2pseudoxml_options.specs.Written.{Fails, Names, Sets};
+ghost use Rattle.rst2pseudoxml_options.specs.Written.{Fails, Names, Sets, TreeRefuses, TreeTakes};
+ghost use Rattle.rst2pseudoxml_options.specs.declared.format.Format.TheVariants.{PseudoXml, Json};
 ghost use Rattle.rst2pseudoxml_options.specs.declared.fault.OptionFault.TheVariants.{Usage, BadLevel, BadTab, BadLimit, TwoLevels};
 
 /// Each option, and the settings that it leaves as they are (The command line, 'Options').
@@ -125,4 +127,35 @@ pub fn first_faults()
     ensures tab_before_two_levels { Fails ("-v" ∷ "-q" ∷ "--tab-width=0" ∷ []) BadTab }
     ensures limit_before_two_levels { Fails ("-v" ∷ "-q" ∷ "--line-length-limit=0" ∷ []) BadLimit }
     ensures all { Fails ("--line-length-limit=0" ∷ "--tab-width=0" ∷ "--halt=0" ∷ "--strict" ∷ "a" ∷ "b" ∷ []) Usage }
+{}
+
+/// The profile, the format, the settings and SOURCE of `rst-tree` (The command line, 'The options of rst-tree').
+pub fn tree()
+    ensures none { TreeTakes [] (record usual { parts = all_parts }, PseudoXml, None) }
+    ensures base { TreeTakes ("--profile=base" ∷ []) (usual, PseudoXml, None) }
+    ensures docutils { TreeTakes ("--profile" ∷ "docutils" ∷ []) (record usual { parts = all_parts }, PseudoXml, None) }
+    ensures json { TreeTakes ("--format=json" ∷ "--profile=base" ∷ []) (usual, Json, None) }
+    ensures pseudoxml { TreeTakes ("--format" ∷ "pseudoxml" ∷ "--profile=base" ∷ []) (usual, PseudoXml, None) }
+    ensures source { TreeTakes ("--profile=base" ∷ "a.rst" ∷ []) (usual, PseudoXml, Some (codes "a.rst")) }
+    ensures hyphen { TreeTakes ("-" ∷ "--profile=base" ∷ []) (usual, PseudoXml, None) }
+    ensures dashed { TreeTakes ("--profile=base" ∷ "--" ∷ "-a" ∷ []) (usual, PseudoXml, Some (codes "-a")) }
+    ensures level { TreeTakes ("-r3" ∷ "--profile=base" ∷ "--halt=none" ∷ []) (record usual { report = Error; halt = Never }, PseudoXml, None) }
+    ensures numbers { TreeTakes ("--tab-width=99" ∷ "--profile=base" ∷ "--line-length-limit" ∷ "16777216" ∷ []) (record usual { tab = 99; limit = 16777216 }, PseudoXml, None) }
+{}
+
+/// What `rst-tree` refuses, or answers by itself (The command line, 'The options of rst-tree').
+pub fn tree_refusals()
+    ensures help { TreeRefuses ("--help" ∷ []) DisplayHelp }
+    ensures version { TreeRefuses ("-V" ∷ []) DisplayVersion }
+    ensures unknown { TreeRefuses ("--nope" ∷ []) UnknownArgument }
+    ensures second { TreeRefuses ("a" ∷ "b" ∷ []) UnknownArgument }
+    ensures level { TreeRefuses ("--report=loud" ∷ []) InvalidValue }
+    ensures profile { TreeRefuses ("--profile=sphinx" ∷ []) InvalidValue }
+    ensures format { TreeRefuses ("--format=xml" ∷ []) InvalidValue }
+    ensures no_value { TreeRefuses ("--format" ∷ []) InvalidValue }
+    ensures tab { TreeRefuses ("--tab-width=100" ∷ []) ValueValidation }
+    ensures limit { TreeRefuses ("--line-length-limit=16777217" ∷ []) ValueValidation }
+    ensures leading_zero { TreeRefuses ("--tab-width=08" ∷ []) ValueValidation }
+    ensures twice { TreeRefuses ("--strict" ∷ "--strict" ∷ []) ArgumentConflict }
+    ensures two_levels { TreeRefuses ("-v" ∷ "-q" ∷ []) ArgumentConflict }
 {}

@@ -3,7 +3,8 @@
 unfoldable pub rst2pseudoxml_run : Unit {0}
 unfolding
     lib.Utf8.encode Rattle.std.specs.Fmt.digits Rattle.std.specs.Str.chars Rattle.std.specs.Str.is_utf8 Rattle.std.specs.Str.Lossy.utf8_valid_len
-    Rattle.rst_text.proofs.Computing.rst_text Rattle.rst_tree.proofs.Computing.rst_tree Rattle.rst_markup_lines.proofs.Computing.rst_markup_lines
+    Rattle.rst_inline_scan.proofs.Computing.rst_inline_scan Rattle.rst_inline.proofs.Computing.rst_inline Rattle.rst_text.proofs.Computing.rst_text
+    Rattle.rst_tree.proofs.Computing.rst_tree Rattle.rst_json.proofs.Computing.rst_json Rattle.rst_markup_lines.proofs.Computing.rst_markup_lines
     Rattle.rst_markup_blocks.proofs.Computing.rst_markup_blocks Rattle.rst_markup_directives.proofs.Computing.rst_markup_directives
     Rattle.rst_markup_tables.proofs.Computing.rst_markup_tables Rattle.rst_block_nodes.proofs.Computing.rst_block_nodes
     Rattle.rst_block_state.proofs.Computing.rst_block_state Rattle.rst_transform.proofs.Computing.rst_transform

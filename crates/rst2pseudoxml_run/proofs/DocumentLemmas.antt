@@ -1,18 +1,32 @@
 -- Lemmas on the document of some bytes.
 use Rattle.std.proofs.Common.{◌≡◌, ℕ, List, None, Some, sym, ap, ◌∙◌, subst}
-use Rattle.std.specs.Prelude.{Result}
+use Rattle.std.specs.Prelude.{Result, Ok}
 use Rattle.rst_settings.specs.Profile.{profile_of}
 use Rattle.rst_settings.specs.declared.Settings.{Settings}
 use Rattle.rst_text.specs.Block.{Block}
-use Rattle.rst_text.specs.Lines.{first_longer}
+use Rattle.rst_text.specs.Lines.{first_longer, lines_of}
 use Rattle.rst_text.specs.Text.{text_of}
 use Rattle.rst_tree.specs.declared.node.Node.{Node}
 use Rattle.rst_block_state.specs.Documents.{document}
-use Rattle.rst2pseudoxml_run.specs.Reading.{lines_under, read_by, read_of, IsReadOf}
+use Rattle.rst2pseudoxml_run.specs.Reading.{held, held_parts, long_document, read_by, read_of, IsReadOf}
 
--- what is read of a text without a line that is too long is the document of its lines, or the line at which blocks are nested too deeply
-pub read_short : (settings : Settings) (bytes text : List ℕ) (lines : Block) (read : Result (Node × ℕ) ℕ) → text_of bytes ≡ Some text → lines ≡ lines_under settings text
-    → first_longer settings.limit lines ≡ None → document (profile_of settings) lines 0 ≡ read → IsReadOf (profile_of settings) settings (text_of bytes) read
-read_short settings bytes text lines read is made short found =
-    subst (λ t. IsReadOf (profile_of settings) settings t read) (sym is)
-    (ap (read_of (profile_of settings)) (sym made) ∙ ap (λ long. read_by long (profile_of settings) lines) short ∙ found)
+-- what is read of a text without a line that is too long, under the settings that hold in it, is the document of its lines, or the line at which
+-- blocks are nested too deeply
+pub read_short : (settings : Settings) (bytes text : List ℕ) (under : Settings) (lines : Block) (read : Result (Node × ℕ) ℕ) → text_of bytes ≡ Some text
+    → under ≡ held settings (text_of bytes) → lines ≡ lines_of under.parts under.tab text → first_longer under.limit lines ≡ None
+    → document (profile_of settings) lines 0 ≡ read → IsReadOf (profile_of settings) (held settings (text_of bytes)) (text_of bytes) read
+read_short settings bytes text under lines read is holds made few found =
+    let same = made ∙ ap (λ (s : Settings). lines_of s.parts s.tab text) holds in
+    let short : first_longer settings.limit lines ≡ None = sym (ap (λ (s : Settings). first_longer s.limit lines) holds) ∙ few in
+    subst (λ t. IsReadOf (profile_of settings) (held settings (text_of bytes)) t read) (sym is)
+    (ap (read_of (profile_of settings)) (sym same) ∙ ap (λ long. read_by long (profile_of settings) lines) short ∙ found)
+
+-- what is read of a text with a line that is too long is the document that says so
+pub read_long : (settings : Settings) (bytes text : List ℕ) (under : Settings) (line : ℕ) → text_of bytes ≡ Some text → under ≡ held settings (text_of bytes)
+    → first_longer under.limit (lines_of under.parts under.tab text) ≡ Some line
+    → IsReadOf (profile_of settings) (held settings (text_of bytes)) (text_of bytes) (Ok (long_document line, 0))
+read_long settings bytes text under line is holds long =
+    let there : first_longer settings.limit (lines_of (held_parts settings.parts (text_of bytes)) settings.tab text) ≡ Some line =
+    sym (ap (λ (s : Settings). first_longer s.limit (lines_of s.parts s.tab text)) holds) ∙ long in
+    subst (λ t. IsReadOf (profile_of settings) (held settings (text_of bytes)) t (Ok (long_document line, 0))) (sym is)
+    (ap (λ long. read_by long (profile_of settings) (lines_of (held_parts settings.parts (text_of bytes)) settings.tab text)) there)

@@ -10,7 +10,6 @@ use Rattle.rst_settings.specs.declared.Settings.{Settings}
 use Rattle.rst_text.specs.Block.{Block}
 use Rattle.rst_text.specs.Characters.{Text}
 use Rattle.rst_text.specs.Lines.{first_longer}
-use Rattle.rst_text.specs.Marks.{parts_in}
 use Rattle.rst_text.specs.Text.{text_of, without_mark}
 use Rattle.rst_tree.specs.declared.node.Node.{Node}
 use Rattle.rst_tree.specs.declared.note.Note.{Note}
@@ -52,7 +51,7 @@ marked_scalars (c ∷ cs) e = cond_both (c == 0xFEFF) cs (c ∷ cs) (λ ds. all_
 text_tree : (settings : Settings) (text : Text) (document : Node) (notes : List Note) → all_scalars text ≡ true → IsLeftOf (profile_of settings) settings (Some text) document notes → IsTree document
 text_tree settings text document notes e (read, is, left) =
     let lines : Block = lines_under settings text in
-    let parsed = read_parsed (first_longer (profile_of settings).line_limit lines) settings lines (lines_kept (parts_in settings.parts text) settings.tab text e) in
+    let parsed = read_parsed (first_longer (profile_of settings).line_limit lines) settings lines (lines_kept settings.parts settings.tab text e) in
     subst IsTree (ap (λ done. done.0) left) (finished_tree read.1 (profile_of settings) settings read.0 (subst (λ r. IfOk r (λ read. IsParsed read.0)) is parsed))
 
 pub left_tree : (settings : Settings) (bytes : List ℕ) (document : Node) (notes : List Note) → IsLeftOf (profile_of settings) settings (text_of bytes) document notes → IsTree document

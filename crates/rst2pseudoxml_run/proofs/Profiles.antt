@@ -3,6 +3,7 @@ use Rattle.std.proofs.Common.{◌≡◌, ◌∙◌, ◌⊎◌, inl, inr, ℕ, fa
 use Rattle.std.proofs.lemmas.Bool.{cases_lt}
 use Rattle.std.specs.Prelude.{Option, Some, None, Result, Ok, Err}
 use Rattle.rst_block_state.specs.Documents.{document}
+use Rattle.rst2pseudoxml_options.specs.declared.format.Format.{Format}
 use Rattle.rst_settings.specs.Profile.{profile_of}
 use Rattle.rst_settings.specs.declared.Settings.{Settings}
 use Rattle.rst_text.specs.Block.{Block}
@@ -13,7 +14,7 @@ use Rattle.rst_transform.specs.Finishing.{leaves}
 use Rattle.rst2pseudoxml_run.specs.CodeCalls.{IsWithoutCode}
 use Rattle.rst2pseudoxml_run.specs.declared.end.End.TheVariants.{TooDeep}
 use Rattle.rst2pseudoxml_run.specs.Profiles.{first_profile, leading_field_list, titled_of, CallsNoCode, HasNoList, ProfilesAgree}
-use Rattle.rst2pseudoxml_run.specs.Reading.{lines_under, read_by, read_of}
+use Rattle.rst2pseudoxml_run.specs.Reading.{held, lines_under, read_by, read_of}
 use Rattle.rst2pseudoxml_run.specs.RunResult.{parts_of, result_of_read, result_of_text}
 use Rattle.rst2pseudoxml_run.proofs.ProfilesCalls.{calls_agree}
 use Rattle.rst2pseudoxml_run.proofs.ProfilesCuts.{cells_keep, opened_keep}
@@ -48,29 +49,29 @@ module _ (settings : Settings) where
   left read (inl off) = left_alike settings read.1 read.0 first_profile (profile_of settings) (sym off)
   left read (inr none) = left_without_list settings read.1 read.0 first_profile (profile_of settings) none
 
-  module _ (source bytes : List ℕ) (limit : settings.limit ≡ 10000) where
+  module _ (format : Format) (source bytes : List ℕ) (limit : settings.limit ≡ 10000) where
     -- the result of lines, where they aren't refused under the first profile
     lines_alike : (lines : Block) → IsWithoutCode lines → ((line : ℕ) → read_of first_profile lines ≡ Err line → ⊥)
         → ((read : Node × ℕ) → read_of first_profile lines ≡ Ok read → (settings.info ≡ false) ⊎ (leading_field_list (titled_of read.1 settings read.0) ≡ None))
-        → result_of_read first_profile settings source (read_of first_profile lines) ≡ result_of_read (profile_of settings) settings source (read_of (profile_of settings) lines)
+        → result_of_read format first_profile settings source (read_of first_profile lines) ≡ result_of_read format (profile_of settings) settings source (read_of (profile_of settings) lines)
     lines_alike lines free nests apart = read_or_refused (read_of first_profile lines)
         (λ read is.
-        ap (result_of_read first_profile settings source) is
-        ∙ ap (λ left. Ok (parts_of settings source left.0 left.1)) (left read (apart read is))
-        ∙ sym (ap (result_of_read (profile_of settings) settings source) (lines_follow lines read limit free is)))
+        ap (result_of_read format first_profile settings source) is
+        ∙ ap (λ left. Ok (parts_of format settings source left.0 left.1)) (left read (apart read is))
+        ∙ sym (ap (result_of_read format (profile_of settings) settings source) (lines_follow lines read limit free is)))
         (λ line is. absurd (nests line is))
 
-    text_alike : (text : Option (List ℕ)) → CallsNoCode settings text → ((line : ℕ) → result_of_text first_profile settings source bytes text ≡ Err (TooDeep line) → ⊥)
-        → (settings.info ≡ false) ⊎ HasNoList first_profile settings text → result_of_text first_profile settings source bytes text ≡ result_of_text (profile_of settings) settings source bytes text
+    text_alike : (text : Option (List ℕ)) → CallsNoCode settings text → ((line : ℕ) → result_of_text format first_profile settings source bytes text ≡ Err (TooDeep line) → ⊥)
+        → (settings.info ≡ false) ⊎ HasNoList first_profile settings text → result_of_text format first_profile settings source bytes text ≡ result_of_text format (profile_of settings) settings source bytes text
     text_alike None free nests apart = refl
     text_alike (Some text) free nests apart = lines_alike (lines_under settings text) free
-        (λ line is. nests line (ap (result_of_read first_profile settings source) is))
+        (λ line is. nests line (ap (result_of_read format first_profile settings source) is))
         (λ read is. elim apart [ inl off ↦ inl off | inr none ↦ inr (none read is) ])
 
 pub profiles_agree : ProfilesAgree
-profiles_agree settings source bytes limit free nests apart = ⊎_elim
-    (λ long. long_result first_profile settings source bytes long ∙ sym (long_result (profile_of settings) settings source bytes long))
+profiles_agree format settings source bytes limit free nests apart = ⊎_elim
+    (λ long. long_result format first_profile settings source bytes long ∙ sym (long_result format (profile_of settings) settings source bytes long))
     (λ short.
-    let first = short_result first_profile settings source bytes short in
-    first ∙ text_alike settings source bytes limit (text_of bytes) free (λ line is. nests line (first ∙ is)) apart ∙ sym (short_result (profile_of settings) settings source bytes short))
+    let first = short_result format first_profile settings source bytes short in
+    first ∙ text_alike (held settings (text_of bytes)) format source bytes limit (text_of bytes) free (λ line is. nests line (first ∙ is)) apart ∙ sym (short_result format (profile_of settings) settings source bytes short))
     (cases_lt 16777216 (length bytes))

@@ -189,7 +189,7 @@ other_name B at call called free = by (is_code (name_text B at call)) refl
 with_and_without : (B : Block) (at : ℕ) (call : Invocation) (place : Place) (paragraph : Bool) → IsCalledIn (first_text (drop at B)) call
     → holds_code (first_text (drop at B)) ≡ false → directive_at true B at call place paragraph ≡ directive_at false B at call place paragraph
 with_and_without B at call place paragraph called free =
-    ap (λ kind. directive_of kind B at call.block place paragraph) (named_alike (name_text B at call) (other_name B at call called free))
+    ap (λ kind. directive_of kind B at call.block place paragraph) (named_alike _ (name_text B at call) (other_name B at call called free))
 
 -- where no call of program code is in the line, a directive is the same whether there is one for program code
 pub directive_alike : (a b : Bool) (B : Block) (at : ℕ) (call : Invocation) (place : Place) (paragraph : Bool) → IsCalledIn (first_text (drop at B)) call

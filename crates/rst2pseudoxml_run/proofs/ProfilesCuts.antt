@@ -9,13 +9,13 @@ use Rattle.rst_markup_blocks.specs.declared.forms.Explicit.{Explicit}
 use Rattle.rst_markup_blocks.specs.declared.forms.Explicit.TheVariants.{Footnote, Citation, Substitution, Directive}
 use Rattle.rst_markup_blocks.specs.declared.lines.LineTest.TheVariants.{Blank}
 use Rattle.rst_markup_blocks.specs.declared.part.Part.{Part}
-use Rattle.rst_markup_directives.specs.Argument.{ArgumentMeaning, uri}
 use Rattle.rst_markup_directives.specs.Directive.{Outcome, found, wrong}
+use Rattle.rst_markup_directives.specs.Kind.{has_blocks}
 use Rattle.rst_markup_directives.specs.declared.found.Content.{Content}
 use Rattle.rst_markup_directives.specs.declared.found.Place.TheVariants.{Top, Body, Substitution as InDefinition}
 use Rattle.rst_block_state.specs.Constructs.{Construct, block_quote, item_of_list, grid, simple, explicit_markup}
 use Rattle.rst_block_state.specs.Directives.{called}
-use Rattle.rst_block_state.specs.Inside.{cells_by, content_blocks, definition_blocks, definition_content, directive_blocks, has_blocks, markup_blocks, opened_by, part_of_item, quoted, quoted_by}
+use Rattle.rst_block_state.specs.Inside.{cells_by, content_blocks, directive_blocks, markup_blocks, opened_by, part_of_item, quoted, quoted_by}
 use Rattle.rst_block_state.specs.Quotes.{first_attribution, quote_after}
 use Rattle.rst_block_state.specs.Texts.{lines_in}
 use Rattle.rst_block_state.specs.Within.{Within, indented_part}
@@ -59,21 +59,13 @@ content_free : (B : Block) (content : Content) → IsWithoutCode B → AreFree (
 content_free B content free = (part_free_in B content.first free, (part_free_in B content.second free, tt))
 
 directive_free : (o : Outcome) (B : Block) → IsWithoutCode B → AreFree (directive_blocks o B)
-directive_free (found read) B free = chosen AreFree (has_blocks read.argument read.kind.content) (content_blocks B read.content) [] (content_free B read.content free) tt
+directive_free (found read) B free = chosen AreFree (has_blocks read.kind.content) (content_blocks B read.content) [] (content_free B read.content free) tt
 directive_free (wrong fault part) B free = tt
-
-definition_content_free : (given : ArgumentMeaning) (B : Block) (content : Content) → IsWithoutCode B → AreFree (definition_content given B content)
-definition_content_free (uri address) B content free = tt
-definition_content_free _ B content free = content_free B content free
-
-definition_free : (o : Outcome) (B : Block) → IsWithoutCode B → AreFree (definition_blocks o B)
-definition_free (found read) B free = definition_content_free read.argument B read.content free
-definition_free (wrong fault part) B free = tt
 
 markup_free : (markup : Explicit) (c : Within) (B : Block) (i : ℕ) → IsWithoutCode B → AreFree (markup_blocks markup c B i)
 markup_free (Footnote label body) c B i free = (part_free_in B body free, tt)
 markup_free (Citation label body) c B i free = (part_free_in B body free, tt)
-markup_free (Substitution name (Some call) end) c B i free = definition_free (called c B i call InDefinition) B free
+markup_free (Substitution name (Some call) end) c B i free = directive_free (called c B i call InDefinition) B free
 markup_free (Directive call) c B i free = directive_free (called c B i call (cond c.titles Top Body)) B free
 markup_free _ c B i free = tt
 

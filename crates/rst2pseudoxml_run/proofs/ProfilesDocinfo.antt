@@ -18,18 +18,18 @@ use Rattle.rst_transform.specs.Linking.{with_links}
 use Rattle.rst2pseudoxml_run.specs.Profiles.{leading_field_list, titled_of}
 
 -- a document without such a list stays as it is, and so do the messages
-without_list : (document : Document) (known : Known) → leading_field_list document ≡ None → with_docinfo document known ≡ (document, known)
-without_list document known none =
+without_list : (parts : Parts) (document : Document) (known : Known) → leading_field_list document ≡ None → with_docinfo parts document known ≡ (document, known)
+without_list parts document known none =
     ap (λ list.
-    let made = nodes_with_docinfo known.first_number known.reports list (nodes_of document.children) in
+    let made = nodes_with_docinfo parts known.first_number known.reports list (nodes_of document.children) in
     (record document { children = forest_of made.0 }, record known { reports = made.1 })) none
     ∙ ap (λ children. (record document { children = children }, known)) (forest_of-nodes_of document.children)
 
-asked_alike : (one other : Bool) (document : Document) (known : Known) → leading_field_list document ≡ None → asked one with_docinfo document known ≡ asked other with_docinfo document known
-asked_alike true true document known none = refl
-asked_alike true false document known none = without_list document known none
-asked_alike false true document known none = sym (without_list document known none)
-asked_alike false false document known none = refl
+asked_alike : (parts : Parts) (one other : Bool) (document : Document) (known : Known) → leading_field_list document ≡ None → asked one (with_docinfo parts) document known ≡ asked other (with_docinfo parts) document known
+asked_alike parts true true document known none = refl
+asked_alike parts true false document known none = without_list parts document known none
+asked_alike parts false true document known none = sym (without_list parts document known none)
+asked_alike parts false false document known none = refl
 
 module _ (settings : Settings) (messages : ℕ) (document : Node) where
   abbrev registered : Registration
@@ -48,7 +48,7 @@ module _ (settings : Settings) (messages : ℕ) (document : Node) where
 
   -- what is left is the same where bibliographic fields are looked for by both profiles or by neither, and where no field list leads the document
   pub left_alike : (first later : Profile) → first.docinfo ≡ later.docinfo → leaves messages first settings document ≡ leaves messages later settings document
-  left_alike first later same = ap (λ is_asked. left_after (asked is_asked with_docinfo titled.0 titled.1)) same
+  left_alike first later same = ap (λ is_asked. left_after (asked is_asked (with_docinfo settings.parts) titled.0 titled.1)) same
 
   pub left_without_list : (first later : Profile) → leading_field_list (titled_of messages settings document) ≡ None → leaves messages first settings document ≡ leaves messages later settings document
-  left_without_list first later none = ap left_after (asked_alike first.docinfo later.docinfo titled.0 titled.1 none)
+  left_without_list first later none = ap left_after (asked_alike settings.parts first.docinfo later.docinfo titled.0 titled.1 none)

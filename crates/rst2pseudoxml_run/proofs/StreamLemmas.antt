@@ -1,5 +1,5 @@
 -- Lemmas on pieces that are written one after another.
-use Rattle.std.proofs.Common.{◌≡◌, ◌∙◌, ℕ, ◌+◌, ◌<◌, List, [], ◌∷◌, ◌++◌, length, take, drop, get_or, Bor, sym, ap, append_assoc, append-nil, take-append-drop}
+use Rattle.std.proofs.Common.{◌≡◌, ◌∙◌, ℕ, ◌+◌, ◌<◌, List, [], ◌∷◌, ◌++◌, length, take, drop, get_or, Bor, sym, ap, append_assoc, codes, append-nil, take-append-drop}
 use Rattle.std.specs.List.{flat_map}
 use Rattle.std.proofs.lemmas.Grind.{flat_map-append}
 use Rattle.std.proofs.lemmas.List.{take_more}
@@ -18,5 +18,5 @@ one_more pieces i d text within same =
 pub parted : (pieces : List (Bor (List ℕ))) (n : ℕ) → joined (take n pieces) ++ joined (drop n pieces) ≡ joined pieces
 parted pieces n = sym (flat_map-append (λ (piece : Bor (List ℕ)). piece.now) (take n pieces) (drop n pieces)) ∙ ap joined (take-append-drop n pieces)
 
-pub line-joined : (p b d a : List ℕ) → p ++ (b ++ (d ++ (a ++ 10 ∷ []))) ≡ (p ++ ((b ++ d) ++ a)) ++ 10 ∷ []
+pub line-joined : (p b d a : List ℕ) → p ++ (codes ": " ++ (b ++ (d ++ (a ++ 10 ∷ [])))) ≡ p ++ (codes ": " ++ (((b ++ d) ++ a) ++ 10 ∷ []))
 line-joined p b d a = simp append_assoc

@@ -6,4 +6,5 @@ pub mod Report
 pub mod OneEnd
 pub mod CodeCalls
 pub mod Profiles
+pub mod Marks
 pub mod Parts

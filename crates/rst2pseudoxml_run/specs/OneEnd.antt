@@ -1,5 +1,6 @@
 -- Runs that read the same bytes. No rule of markup: it is what the law that they have one end speaks of.
 use Rattle.std.specs.Prelude.{◌≡◌, Bool, true, false, List, ℕ, Some}
+use Rattle.rst2pseudoxml_options.specs.declared.format.Format.{Format}
 use Rattle.rst_settings.specs.Profile.{Profile}
 use Rattle.rst_settings.specs.declared.Settings.{Settings}
 use Rattle.rst_text.specs.Counted.{Stream, Gains}
@@ -17,10 +18,10 @@ is_own (TooDeep line) = true
 is_own _ = false
 
 -- a run of a reader with these bytes came to its own end
-pub record Comes (profile : Profile) (settings : Settings) (source text : List ℕ) (input out err : Stream) (end : End) : Type 0 where
+pub record Comes (format : Format) (profile : Profile) (settings : Settings) (source text : List ℕ) (input out err : Stream) (end : End) : Type 0 where
   pub holds : input.before ≡ Some text
   pub own : is_own end ≡ true
-  pub headline : Headline (result_of profile settings source) input out err end
+  pub headline : Headline (result_of format profile settings source) input out err end
 
 -- two of them ended alike, and their writers gained the same
 pub record EndAlike (out err also_out also_err : Stream) (end also : End) : Type 0 where
@@ -34,8 +35,8 @@ pub record EndAlike (out err also_out also_err : Stream) (end also : End) : Type
 
 abbrev pub HasOneEnd : Type 0
 HasOneEnd =
-    (profile : Profile) (settings : Settings) (source text : List ℕ)
+    (format : Format) (profile : Profile) (settings : Settings) (source text : List ℕ)
     (input out err also_input also_out also_err : Stream) (end also : End)
-    → Comes profile settings source text input out err end
-    → Comes profile settings source text also_input also_out also_err also
+    → Comes format profile settings source text input out err end
+    → Comes format profile settings source text also_input also_out also_err also
     → EndAlike out err also_out also_err end also

@@ -1,32 +1,16 @@
--- Where it makes no difference which parts of the markup are asked for. No rule of markup: it is what the law on that is about.
-use Rattle.std.specs.Prelude.{◌≡◌, ℕ, false, List, Option, None, Some}
-use Rattle.rst_settings.specs.Parts.{no_parts, all_parts}
+-- Where it makes no difference which parts of the wider profile are asked for. No rule of markup: it is what the law on that is about.
+use Rattle.std.specs.Prelude.{◌≡◌, ℕ, Bool, false, List, encode_utf8_all}
+use Rattle.std.specs.Option.{IfSome}
+use Rattle.rst2pseudoxml_options.specs.declared.format.Format.{Format}
 use Rattle.rst_settings.specs.Profile.{Profile}
+use Rattle.rst_settings.specs.declared.Parts.{Parts}
 use Rattle.rst_settings.specs.declared.Settings.{Settings}
-use Rattle.rst_text.specs.Marks.{holds_role, parts_in}
 use Rattle.rst_text.specs.Text.{text_of}
 use Rattle.rst2pseudoxml_run.specs.RunResult.{result_of}
 
--- a text holds no mark of any part, or there is no text
-abbrev pub HoldsNoMark : Option (List ℕ) → Type 0
-HoldsNoMark None = Unit {0}
-HoldsNoMark (Some text) = parts_in all_parts text ≡ no_parts
-
--- no colon in it stands directly before a backquote, or there is no text
-abbrev pub HoldsNoRole : Option (List ℕ) → Type 0
-HoldsNoRole None = Unit {0}
-HoldsNoRole (Some text) = holds_role text ≡ false
-
--- Where a text holds no mark of any part, its result is the one under the settings that ask for no part.
-abbrev pub PartsNeedMarks : Type 0
-PartsNeedMarks =
-    (profile : Profile) (settings : Settings) (source bytes : List ℕ)
-    → HoldsNoMark (text_of bytes)
-    → result_of profile settings source bytes ≡ result_of profile (record settings { parts = no_parts }) source bytes
-
--- Where no colon stands directly before a backquote, it is the one under the settings that don't ask for the part `marks`.
-abbrev pub MarksNeedRoles : Type 0
-MarksNeedRoles =
-    (profile : Profile) (settings : Settings) (source bytes : List ℕ)
-    → HoldsNoRole (text_of bytes)
-    → result_of profile settings source bytes ≡ result_of profile (record settings { parts = record settings.parts { marks = false } }) source bytes
+-- Where a text doesn't hold a mark, its result is the one under the settings that ask for the parts without some.
+abbrev pub NeedsMark : (Parts → Parts) → (List ℕ → Bool) → Type 0
+NeedsMark without holds =
+    (format : Format) (profile : Profile) (settings : Settings) (source bytes : List ℕ)
+    → IfSome (text_of bytes) (λ text. holds (encode_utf8_all text) ≡ false)
+    → result_of format profile settings source bytes ≡ result_of format profile (record settings { parts = without settings.parts }) source bytes

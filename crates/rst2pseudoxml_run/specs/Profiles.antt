@@ -1,6 +1,7 @@
 -- The profile that the program ran under at first, and the documents that are the same under the present one. No rule of markup: it is
 -- what the law on that is about.
 use Rattle.std.specs.Prelude.{◌≡◌, ◌⊎◌, ℕ, false, List, Option, None, Some, Ok, Err}
+use Rattle.rst2pseudoxml_options.specs.declared.format.Format.{Format}
 use Rattle.rst_settings.specs.Profile.{Profile, profile_of}
 use Rattle.rst_settings.specs.declared.Settings.{Settings}
 use Rattle.rst_text.specs.Text.{text_of}
@@ -13,7 +14,7 @@ use Rattle.rst_transform_work.specs.States.{document_in}
 use Rattle.rst_transform.specs.Finishing.{known_at_first, titled_first}
 use Rattle.rst2pseudoxml_run.specs.CodeCalls.{IsWithoutCode}
 use Rattle.rst2pseudoxml_run.specs.declared.end.End.TheVariants.{TooDeep}
-use Rattle.rst2pseudoxml_run.specs.Reading.{lines_under, IsReadOf}
+use Rattle.rst2pseudoxml_run.specs.Reading.{held, lines_under, IsReadOf}
 use Rattle.rst2pseudoxml_run.specs.RunResult.{result_of}
 
 -- the profile that the program ran under at first
@@ -47,16 +48,16 @@ HasNoList profile settings text =
     (read : Node × ℕ) → IsReadOf profile settings text (Ok read) → leading_field_list (titled_of read.1 settings read.0) ≡ None
 
 -- no block is nested too deeply: that isn't the result under a profile
-abbrev pub NestsWithin : Profile → Settings → List ℕ → List ℕ → Type 0
-NestsWithin profile settings source bytes = (line : ℕ) → result_of profile settings source bytes ≡ Err (TooDeep line) → ⊥
+abbrev pub NestsWithin : Format → Profile → Settings → List ℕ → List ℕ → Type 0
+NestsWithin format profile settings source bytes = (line : ℕ) → result_of format profile settings source bytes ≡ Err (TooDeep line) → ⊥
 
 -- The first profile and the present one have the same result where lines may have 10,000 characters, no line calls program code, no block
 -- is nested too deeply for the first one, and bibliographic fields aren't looked for or no field list leads the document.
 abbrev pub ProfilesAgree : Type 0
 ProfilesAgree =
-    (settings : Settings) (source bytes : List ℕ)
+    (format : Format) (settings : Settings) (source bytes : List ℕ)
     → settings.limit ≡ 10000
-    → CallsNoCode settings (text_of bytes)
-    → NestsWithin first_profile settings source bytes
-    → (settings.info ≡ false) ⊎ HasNoList first_profile settings (text_of bytes)
-    → result_of first_profile settings source bytes ≡ result_of (profile_of settings) settings source bytes
+    → CallsNoCode (held settings (text_of bytes)) (text_of bytes)
+    → NestsWithin format first_profile settings source bytes
+    → (settings.info ≡ false) ⊎ HasNoList first_profile (held settings (text_of bytes)) (text_of bytes)
+    → result_of format first_profile settings source bytes ≡ result_of format (profile_of settings) settings source bytes

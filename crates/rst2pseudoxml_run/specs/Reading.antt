@@ -1,14 +1,16 @@
 -- The document that an input is (Markup Specification, 'Syntax Details'; Configuration, `line_length_limit`).
-use Rattle.std.specs.Prelude.{◌≡◌, ℕ, ◌≤◌, List, [], ◌∷◌, ◌++◌, Option, None, Some, Result, Ok, Err, codes}
+use Rattle.std.specs.Prelude.{◌≡◌, ℕ, ◌≤◌, List, [], ◌∷◌, ◌++◌, Option, None, Some, Result, Ok, Err, codes, encode_utf8_all}
 use Rattle.std.specs.Fmt.{decimal}
 use Rattle.std.specs.Str.Lossy.{utf8_valid_len}
 use Rattle.rst_tree_index.specs.declared.parsed.Parsed.{Parsed}
 use Rattle.rst_block_state.specs.Documents.{document}
 use Rattle.rst_settings.specs.Profile.{Profile}
+use Rattle.rst_settings.specs.Parts.{no_parts}
+use Rattle.rst_settings.specs.declared.Parts.{Parts}
 use Rattle.rst_settings.specs.declared.Settings.{Settings}
 use Rattle.rst_text.specs.Block.{Block}
 use Rattle.rst_text.specs.Lines.{first_longer, lines_of}
-use Rattle.rst_text.specs.Marks.{parts_in}
+use Rattle.rst2pseudoxml_run.specs.Marks.{parts_in}
 use Rattle.rst_text.specs.Text.{text_of}
 use Rattle.rst_transform.specs.Finishing.{leaves}
 use Rattle.rst_transform_messages.specs.Messages.{highest_level}
@@ -44,9 +46,18 @@ read_by (Some line) profile lines = Ok (long_document line, 0)
 abbrev pub read_of : Profile → Block → Result (Node × ℕ) ℕ
 read_of profile lines = read_by (first_longer profile.line_limit lines) profile lines
 
--- the lines of a text, in which those parts of the markup hold that are asked for and whose mark the text holds
+-- the parts of the wider profile that hold in a text, if there is one: those that are asked for and whose mark it holds
+abbrev pub held_parts : Parts → Option (List ℕ) → Parts
+held_parts asked None = no_parts
+held_parts asked (Some text) = parts_in asked (encode_utf8_all text)
+
+-- the settings with these parts: a document is read, finished and printed under them
+abbrev pub held : Settings → Option (List ℕ) → Settings
+held settings text = record settings { parts = held_parts settings.parts text }
+
+-- the lines of a text
 abbrev pub lines_under : Settings → List ℕ → Block
-lines_under settings text = lines_of (parts_in settings.parts text) settings.tab text
+lines_under settings text = lines_of settings.parts settings.tab text
 
 -- what is read of a text, if there is one
 abbrev pub IsReadOf : Profile → Settings → Option (List ℕ) → Result (Node × ℕ) ℕ → Type 0
@@ -56,13 +67,14 @@ IsReadOf profile settings (Some text) read = read_of profile (lines_under settin
 -- the bytes are refused on this ground, or memory ran out
 abbrev pub Refuses : Profile → Settings → List ℕ → End → Type 0
 Refuses profile settings bytes (NotUtf8 at) = (text_of bytes ≡ None) × (at ≡ utf8_valid_len bytes)
-Refuses profile settings bytes (TooDeep line) = IsReadOf profile settings (text_of bytes) (Err line)
+Refuses profile settings bytes (TooDeep line) = let text = text_of bytes in IsReadOf profile (held settings text) text (Err line)
 Refuses profile settings bytes NoMemory = Unit {0}
 Refuses profile settings bytes _ = ⊥
 
--- a document was read of the bytes, or they were refused, or memory ran out
-abbrev pub Parses : Profile → Settings → List ℕ → Result Parsed End → Type 0
-Parses profile settings bytes (Ok parsed) = IsReadOf profile settings (text_of bytes) (Ok (parsed.tree, parsed.messages))
+-- a document was read of the bytes under the settings that hold in their text, or they were refused, or memory ran out
+abbrev pub Parses : Profile → Settings → List ℕ → Result (Parsed × Settings) End → Type 0
+Parses profile settings bytes (Ok parsed) =
+    let text = text_of bytes in (parsed.1 ≡ held settings text) × IsReadOf profile (held settings text) text (Ok (parsed.0.tree, parsed.0.messages))
 Parses profile settings bytes (Err end) = Refuses profile settings bytes end
 
 -- a document and messages are left of the document that is read of a text
@@ -78,5 +90,5 @@ IsMade profile settings text finished =
 
 -- a document was made of the bytes, or they were refused, or memory ran out
 abbrev pub Reads : Profile → Settings → List ℕ → Result Finished End → Type 0
-Reads profile settings bytes (Ok finished) = IsMade profile settings (text_of bytes) finished
+Reads profile settings bytes (Ok finished) = let text = text_of bytes in IsMade profile (held settings text) text finished
 Reads profile settings bytes (Err end) = Refuses profile settings bytes end

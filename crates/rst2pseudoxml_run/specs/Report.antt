@@ -3,7 +3,7 @@ use Rattle.std.specs.Prelude.{ℕ, List, [], ◌∷◌, ◌++◌, codes, decimal
 use Rattle.rst2pseudoxml_run.specs.declared.end.End.{End}
 use Rattle.rst2pseudoxml_run.specs.declared.end.End.TheVariants.{Done, Read, TooLong, NotUtf8, NoMemory, WriteErr, WriteOut, TooDeep}
 use Rattle.rst2pseudoxml_run.specs.declared.reporting.Stop.{Stop}
-use Rattle.rst2pseudoxml_run.specs.declared.reporting.Stop.TheVariants.{Words, Options, Open, Ran}
+use Rattle.rst2pseudoxml_run.specs.declared.reporting.Stop.TheVariants.{Words, Options, Refused, Open, Ran}
 use Rattle.rst2pseudoxml_options.specs.declared.fault.OptionFault.{OptionFault}
 use Rattle.rst2pseudoxml_options.specs.declared.fault.OptionFault.TheVariants.{Usage, BadLevel, BadTab, BadLimit, TwoLevels, NoMemory as NoRoom}
 
@@ -25,20 +25,23 @@ option_message BadLimit = codes "bad line limit"
 option_message TwoLevels = codes "two levels"
 option_message NoRoom = codes "out of memory"
 
-abbrev pub fault_line : List ℕ → List ℕ
-fault_line message = codes "rst2pseudoxml: " ++ message ++ 10 ∷ []
+-- a message after the program's name
+abbrev pub fault_line : List ℕ → List ℕ → List ℕ
+fault_line program message = program ++ (codes ": " ++ (message ++ 10 ∷ []))
 
 -- the line of a fault, and nothing for a run that is done
-abbrev pub fault_line_of : Stop → List ℕ
-fault_line_of Words = fault_line (codes "bad arguments")
-fault_line_of (Options fault) = fault_line (option_message fault)
-fault_line_of (Open source) = fault_line (codes "cannot open " ++ string_bytes source)
-fault_line_of (Ran (Done status)) = []
-fault_line_of (Ran end) = fault_line (end_message end)
+abbrev pub fault_line_of : List ℕ → Stop → List ℕ
+fault_line_of program Words = fault_line program (codes "bad arguments")
+fault_line_of program (Options fault) = fault_line program (option_message fault)
+fault_line_of program (Refused words) = fault_line program (string_bytes words)
+fault_line_of program (Open source) = fault_line program (codes "cannot open " ++ string_bytes source)
+fault_line_of program (Ran (Done status)) = []
+fault_line_of program (Ran end) = fault_line program (end_message end)
 
 abbrev pub status_of : Stop → ℕ
 status_of Words = 2
 status_of (Options fault) = 2
+status_of (Refused words) = 2
 status_of (Open source) = 1
 status_of (Ran (Done status)) = status
 status_of (Ran end) = 1

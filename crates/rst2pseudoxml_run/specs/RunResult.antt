@@ -1,11 +1,14 @@
 -- What the program prints of a finished document: standard output, standard error and the exit status.
-use Rattle.std.specs.Prelude.{◌≡◌, ℕ, ◌+◌, Bool, true, false, ◌||◌, nat_lt, List, [], ◌∷◌, ◌++◌, length, filter, if◌then◌else◌, Option, None, Some, Result, Ok, Err, Vec, codes}
+use Rattle.std.specs.Prelude.{◌≡◌, ℕ, ◌+◌, Bool, true, false, ◌||◌, nat_lt, List, [], ◌∷◌, ◌++◌, length, filter, if◌then◌else◌, Option, None, Some, Result, Ok, Err, Vec, codes, option_map}
 use Rattle.std.specs.Fmt.{decimal}
 use Rattle.std.specs.List.{flat_map}
 use Rattle.std.specs.Str.Lossy.{utf8_valid_len}
 use Rattle.rst_text.specs.Counted.{inner_of}
 use Rattle.rst_text.specs.Text.{text_of}
 use Rattle.rst_text.specs.declared.counted.Counted.{Counted}
+use Rattle.rst2pseudoxml_options.specs.declared.format.Format.{Format}
+use Rattle.rst2pseudoxml_options.specs.declared.format.Format.TheVariants.{PseudoXml, Json}
+use Rattle.rst_json.specs.Json.{json_node}
 use Rattle.rst_settings.specs.Profile.{Profile}
 use Rattle.rst_settings.specs.declared.Settings.{Settings}
 use Rattle.rst_settings.specs.Threshold.{is_reached}
@@ -20,7 +23,7 @@ use Rattle.rst_tree.specs.declared.note.Level.{Level}
 use Rattle.rst_tree.specs.declared.note.Note.{Note}
 use Rattle.rst2pseudoxml_run.specs.declared.end.End.{End}
 use Rattle.rst2pseudoxml_run.specs.declared.end.End.TheVariants.{TooLong, NotUtf8, TooDeep, NoMemory}
-use Rattle.rst2pseudoxml_run.specs.Reading.{lines_under, read_of}
+use Rattle.rst2pseudoxml_run.specs.Reading.{held, lines_under, read_of}
 
 -- standard output, standard error and the exit status
 pub record Parts : Type 0 where
@@ -57,10 +60,15 @@ error_text settings source notes = flat_map (message_of source) (filter (is_repo
 abbrev pub status_by : Settings → ℕ → ℕ
 status_by settings highest = if is_reached settings.exit highest then 10 + highest else 0
 
--- standard output: the document with its source, and its messages with their lines and types; or nothing if a message halts the run
-abbrev pub standard_output : List ℕ → Node → Option Level → List ℕ
-standard_output source document None = print_of (with_printed_attrs (Some source) document)
-standard_output source document (Some level) = []
+-- a document with the lines and types of its messages: as pseudo-XML with its source, or as JSON, which doesn't name it, and a line end
+abbrev pub printed : Format → List ℕ → Node → List ℕ
+printed PseudoXml source document = print_of (with_printed_attrs (Some source) document)
+printed Json source document = json_node (with_printed_attrs None document) ++ 10 ∷ []
+
+-- standard output: the document, or nothing if a message halts the run
+abbrev pub standard_output : Format → List ℕ → Node → Option Level → List ℕ
+standard_output format source document None = printed format source document
+standard_output format source document (Some level) = []
 
 -- the exit status: by the level of the messages, or 1 where one halts the run
 abbrev pub ended_by : Settings → List Note → Option Level → ℕ
@@ -68,25 +76,25 @@ ended_by settings notes None = status_by settings (highest_level notes)
 ended_by settings notes (Some level) = 1
 
 -- what is printed of a document and its messages, or of its messages alone where one halts the run
-abbrev pub parts_of : Settings → List ℕ → Node → List Note → Parts
-parts_of settings source document notes =
+abbrev pub parts_of : Format → Settings → List ℕ → Node → List Note → Parts
+parts_of format settings source document notes =
     let halts = halting settings notes in
-    record { out = standard_output source document halts; err = error_text settings source notes; status = ended_by settings notes halts }
+    record { out = standard_output format source document halts; err = error_text settings source notes; status = ended_by settings notes halts }
 
 -- what is printed of what is read of a text: of what is left of a document and of its messages; or the line at which blocks are nested too deeply
-abbrev pub result_of_read : Profile → Settings → List ℕ → Result (Node × ℕ) ℕ → Result Parts End
-result_of_read profile settings source (Ok read) = let left = leaves read.1 profile settings read.0 in Ok (parts_of settings source left.0 left.1)
-result_of_read profile settings source (Err line) = Err (TooDeep line)
+abbrev pub result_of_read : Format → Profile → Settings → List ℕ → Result (Node × ℕ) ℕ → Result Parts End
+result_of_read format profile settings source (Ok read) = let left = leaves read.1 profile settings read.0 in Ok (parts_of format settings source left.0 left.1)
+result_of_read format profile settings source (Err line) = Err (TooDeep line)
 
 -- the same of some bytes and their text, if they are UTF-8
-abbrev pub result_of_text : Profile → Settings → List ℕ → List ℕ → Option (List ℕ) → Result Parts End
-result_of_text profile settings source bytes None = Err (NotUtf8 (utf8_valid_len bytes))
-result_of_text profile settings source bytes (Some text) = result_of_read profile settings source (read_of profile (lines_under settings text))
+abbrev pub result_of_text : Format → Profile → Settings → List ℕ → List ℕ → Option (List ℕ) → Result Parts End
+result_of_text format profile settings source bytes None = Err (NotUtf8 (utf8_valid_len bytes))
+result_of_text format profile settings source bytes (Some text) = result_of_read format profile settings source (read_of profile (lines_under settings text))
 
 -- The result of some bytes: what is printed for them, or the refusal of what is too long, no UTF-8 or nested too deeply.
-abbrev pub result_of : Profile → Settings → List ℕ → List ℕ → Result Parts End
-result_of profile settings source bytes =
-    if nat_lt 16777216 (length bytes) then Err TooLong else result_of_text profile settings source bytes (text_of bytes)
+abbrev pub result_of : Format → Profile → Settings → List ℕ → List ℕ → Result Parts End
+result_of format profile settings source bytes =
+    let text = text_of bytes in if nat_lt 16777216 (length bytes) then Err TooLong else result_of_text format profile (held settings text) source bytes text
 
 -- the refusals that a result may be
 abbrev pub is_refusal : End → Bool
@@ -101,10 +109,15 @@ is_judged (Err end) = is_refusal end
 
 -- each input has a result, which is printed or is one of these refusals
 abbrev pub IsJudged : Type 0
-IsJudged = (profile : Profile) (settings : Settings) (source bytes : List ℕ) → is_judged (result_of profile settings source bytes) ≡ true
+IsJudged = (format : Format) (profile : Profile) (settings : Settings) (source bytes : List ℕ) → is_judged (result_of format profile settings source bytes) ≡ true
 
 -- the text of the messages was made, or memory ran out
 abbrev pub MakesErrorText : {A : Type 0} → Settings → List ℕ → List Note → Result (Counted (Vec ℕ A)) End → Type 0
 MakesErrorText settings source notes (Ok text) = (inner_of text).items ≡ error_text settings source notes
 MakesErrorText settings source notes (Err NoMemory) = Unit {0}
 MakesErrorText settings source notes (Err _) = ⊥
+
+-- the text of a document that is made before it is written: as JSON, and not as pseudo-XML
+abbrev pub IsMadeAs : {A : Type 0} → Format → Node → Option (Vec ℕ A) → Type 0
+IsMadeAs PseudoXml document made = made ≡ None
+IsMadeAs Json document made = option_map (λ text. text.items) made ≡ Some (printed Json [] document)

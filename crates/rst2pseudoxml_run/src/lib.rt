@@ -6,12 +6,15 @@ mod end;
 mod error_text;
 mod input;
 pub mod laws;
+mod marks;
 mod reporting;
 pub mod rows;
 mod running;
+mod starting;
 
 pub use document::document_of;
 pub use end::End;
 pub use error_text::{halting, is_reported, status_of};
 pub use reporting::{Stop, report};
 pub use running::{run, show};
+pub use starting::{run_over, words};

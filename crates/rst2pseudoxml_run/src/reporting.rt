@@ -15,30 +15,36 @@ pub enum Stop {
     Words,
     /// The argument words choose no settings.
     Options(OptionFault),
+    /// The argument words are refused in these words.
+    Refused(String),
     /// The source, as written, can't be opened.
     Open(String),
     /// A run came to its end.
     Ran(End),
 }
 
-/// Writes the fault's line to standard error, nothing for a run that is done, and gives the exit status.
+/// Writes the fault's line, reported by the program of a name, to standard error, nothing for a run that is done, and gives the exit status.
 ///
 /// It stops at the first write that fails; the status stays the same.
-pub fn report<E: WriteCall>(stop: &Stop, err: &mut Counted<E>) -> u8
-    ensures line { IsSent E.call_takes E.contents err.old err.new (fault_line_of stop.now) }
+pub fn report<E: WriteCall>(by: &str, stop: &Stop, err: &mut Counted<E>) -> u8
+    ensures line { IsSent E.call_takes E.contents err.old err.new (fault_line_of by.now stop.now) }
     ensures status { result ≡ status_of stop.now }
 {
     match stop {
         Stop::Words => {
-            say("bad arguments", err);
+            say(by, "bad arguments", err);
             2
         }
         Stop::Options(fault) => {
-            say(option_message(*fault), err);
+            say(by, option_message(*fault), err);
+            2
+        }
+        Stop::Refused(words) => {
+            say(by, words.as_str(), err);
             2
         }
         Stop::Open(source) => {
-            say_of("cannot open ", source.as_str(), "", err);
+            say_of(by, "cannot open ", source.as_str(), "", err);
             1
         }
         Stop::Ran(End::Done(status)) => *status,
@@ -46,14 +52,16 @@ pub fn report<E: WriteCall>(stop: &Stop, err: &mut Counted<E>) -> u8
             let mut buffer = Buffer::new();
             match end {
                 End::Done(_) => {}
-                End::Read => say("read failed", err),
-                End::TooLong => say("input too long", err),
-                End::NotUtf8 { at } => say_of("not UTF-8 at byte ", buffer.format(*at), "", err),
-                End::NoMemory => say("out of memory", err),
-                End::WriteErr { .. } => say("write failed", err),
-                End::WriteOut { .. } => say("write failed", err),
+                End::Read => say(by, "read failed", err),
+                End::TooLong => say(by, "input too long", err),
+                End::NotUtf8 { at } => {
+                    say_of(by, "not UTF-8 at byte ", buffer.format(*at), "", err);
+                }
+                End::NoMemory => say(by, "out of memory", err),
+                End::WriteErr { .. } => say(by, "write failed", err),
+                End::WriteOut { .. } => say(by, "write failed", err),
                 End::TooDeep { line } => {
-                    say_of("line ", buffer.format(*line), ": nesting too deep", err);
+                    say_of(by, "line ", buffer.format(*line), ": nesting too deep", err);
                 }
             }
             1
@@ -76,17 +84,23 @@ fn option_message(fault: OptionFault) -> &'static str
 }
 
 /// Writes a fault's line.
-fn say<'a, E: WriteCall>(message: &'a str, err: &mut Counted<E>)
-    ensures { IsSent E.call_takes E.contents err.old err.new (fault_line message.now) }
+fn say<'a, E: WriteCall>(by: &'a str, message: &'a str, err: &mut Counted<E>)
+    ensures { IsSent E.call_takes E.contents err.old err.new (fault_line by.now message.now) }
 {
-    write_pieces(&["rst2pseudoxml: ", message, "\n"], err);
+    write_pieces(&[by, ": ", message, "\n"], err);
 }
 
 /// Writes a fault's line that names something.
-fn say_of<'a, E: WriteCall>(before: &'a str, named: &'a str, after: &'a str, err: &mut Counted<E>)
-    ensures { IsSent E.call_takes E.contents err.old err.new (fault_line (before.now ++ named.now ++ after.now)) }
+fn say_of<'a, E: WriteCall>(
+    by: &'a str,
+    before: &'a str,
+    named: &'a str,
+    after: &'a str,
+    err: &mut Counted<E>,
+)
+    ensures { IsSent E.call_takes E.contents err.old err.new (fault_line by.now (before.now ++ named.now ++ after.now)) }
 {
-    write_pieces(&["rst2pseudoxml: ", before, named, after, "\n"], err);
+    write_pieces(&[by, ": ", before, named, after, "\n"], err);
 }
 
 /// Writes the pieces, up to the first that fails.

@@ -16,3 +16,4 @@ pub mod substitutions;
 pub mod tables;
 pub mod targets;
 pub mod transitions;
+pub mod wider;

@@ -2,7 +2,7 @@
 use Rattle.std.proofs.Common.{◌≡◌, ℕ, zero, suc, ◌+◌, cond, Bool, true, false, List, [], ◌∷◌, ◌++◌, map, take, drop, length, Option, None, Some, Result, Ok, Err, refl, sym, ap, ◌∙◌, subst}
 use Rattle.std.specs.Prelude.{flat_map, slice_range}
 use Rattle.std.specs.List.{AllByRecursion}
-use Rattle.rst_text.specs.Block.{Block, first_text, first_number}
+use Rattle.rst_text.specs.Block.{Block, first_text, first_number, first_parts}
 use Rattle.rst_tree.specs.declared.node.Node.{Node}
 use Rattle.rst_tree.specs.declared.tag.Tag.{Tag}
 use Rattle.rst_tree.specs.declared.tag.Tag.TheVariants.{Attribution as AttributionTag, Title as TitleTag, FieldName, DefinitionListItem, Definition, Field, FieldBody}
@@ -14,13 +14,12 @@ use Rattle.rst_markup_blocks.specs.declared.forms.Explicit.{Explicit}
 use Rattle.rst_markup_blocks.specs.declared.forms.Explicit.TheVariants.{Footnote, Citation, Target, Anonymous, Substitution, Directive, Comment, EmptyComment}
 use Rattle.rst_markup_blocks.specs.declared.forms.Invocation.{Invocation}
 use Rattle.rst_markup_blocks.specs.declared.part.Part.{Part}
-use Rattle.rst_markup_directives.specs.Argument.{ArgumentMeaning, nothing as no_argument, title, uri, language}
+use Rattle.rst_markup_directives.specs.Argument.{ArgumentMeaning, title, uri}
 use Rattle.rst_markup_directives.specs.Directive.{Read, Outcome, directive_at, found, wrong}
+use Rattle.rst_markup_directives.specs.Kind.{has_blocks}
 use Rattle.rst_markup_directives.specs.declared.found.Content.{Content}
 use Rattle.rst_markup_directives.specs.declared.found.Place.{Place}
 use Rattle.rst_markup_directives.specs.declared.found.Place.TheVariants.{Top, Body, Substitution as InDefinition}
-use Rattle.rst_markup_directives.specs.declared.kind.ContentKind.{ContentKind}
-use Rattle.rst_markup_directives.specs.declared.kind.ContentKind.TheVariants.{Lines, Caption}
 use Rattle.rst_markup_tables.specs.SimpleTable.{simple_table}
 use Rattle.rst_markup_tables.specs.Tiling.{grid_table}
 use Rattle.rst_markup_tables.specs.declared.results.Cell.{Cell}
@@ -29,8 +28,8 @@ use Rattle.rst_markup_tables.specs.declared.results.TableResult.TheVariants.{Tab
 use Rattle.rst_block_nodes.specs.Options.{directive_element}
 use Rattle.rst_block_nodes.specs.Sections.{filled}
 use Rattle.rst_block_state.specs.Constructs.{ItemMark, bullet_item, enumerated_item, definition_item, field_item, option_item, Construct, nothing, block_quote, item_of_list, doctest_block, bar_line, grid, simple, explicit_markup, transition, overlined_title, misplaced_lines, underlined_title, paragraph, Found}
-use Rattle.rst_block_state.specs.Directives.{content_nodes, called, titled_element, right_by, directive_by, definition_by, definition_or_error}
-use Rattle.rst_block_state.specs.Inside.{quoted_by, quoted, part_of_item, content_blocks, directive_content, directive_blocks, definition_content, definition_blocks, markup_blocks, opened_by, opened_of, cell_blocks, cells_by, cells_with}
+use Rattle.rst_block_state.specs.Directives.{content_nodes, called, titled_element, opened_by as opened_nodes, directive_by, definition_or_error}
+use Rattle.rst_block_state.specs.Inside.{quoted_by, quoted, part_of_item, content_blocks, directive_blocks, markup_blocks, opened_by, opened_of, cell_blocks, cells_by, cells_with}
 use Rattle.rst_block_state.specs.LineRuns.{number_or}
 use Rattle.rst_block_state.specs.Lists.{item_by, item_with}
 use Rattle.rst_block_state.specs.Markup.{markup_by}
@@ -112,7 +111,7 @@ module _ (all code later titles : Bool) (levels more : ℕ) (g h : Block → Num
       by None i others = same_alike all (g Q n) (h Q n) (λ nodes. just (quote_node Q nodes ∷ [])) (i.0 n)
       by (Some (k, a)) i others =
           let end : Node × List Node → List Node → List Node → Numbered (List Node) = λ made nodes more. just (quote_node Q (nodes ++ made.0 ∷ []) ∷ made.1 ++ more) in
-          after_alike all (texted AttributionTag (first_number (drop k Q)) (joined (lines_in Q (attribution_part k a))) (first_number (drop k Q)) n)
+          after_alike all (texted (first_parts (drop k Q)) AttributionTag (first_number (drop k Q)) (joined (lines_in Q (attribution_part k a))) (first_number (drop k Q)) n)
           (λ (made : Node × List Node). g (take k Q) >>= λ nodes. quotes c m (quote_after Q a) >>= end made nodes)
           (λ (made : Node × List Node). h (take k Q) >>= λ nodes. quotes d m (quote_after Q a) >>= end made nodes)
           (λ made j. then_alike all (g (take k Q) j) (h (take k Q) j) (λ nodes. quotes c m (quote_after Q a) >>= end made nodes) (λ nodes. quotes d m (quote_after Q a) >>= end made nodes) (i.0 j)
@@ -126,12 +125,12 @@ module _ (all code later titles : Bool) (levels more : ℕ) (g h : Block → Num
 
   item_alike : (B : Block) (at : ℕ) (mark : ItemMark) (X : Block) (n : ℕ) → Inside (lines_in B (part_of_item at mark X) ∷ []) → Alike all (item_by c B at mark X n) (item_by d B at mark X n)
   item_alike B at (definition_item infos) X n i =
-      after_alike all (termed (first_text X) (first_number X) n)
+      after_alike all (termed (first_parts X) (first_text X) (first_number X) n)
       (λ (made : List Node × List Node). item_with c B DefinitionListItem Definition (first_number X) (indented_part (at + 1) (drop 1 X)) made.0 made.1)
       (λ (made : List Node × List Node). item_with d B DefinitionListItem Definition (first_number X) (indented_part (at + 1) (drop 1 X)) made.0 made.1)
       (λ made k. item_with_alike B DefinitionListItem Definition (first_number X) (indented_part (at + 1) (drop 1 X)) made.0 made.1 k i)
   item_alike B at (field_item m) X n i =
-      after_alike all (texted FieldName (first_number X) (slice_range (first_text X) m.name.from m.name.to) (first_number X) n)
+      after_alike all (texted (first_parts X) FieldName (first_number X) (slice_range (first_text X) m.name.from m.name.to) (first_number X) n)
       (λ (made : Node × List Node). item_with c B Field FieldBody (first_number X) (hanging at m.marker X) (made.0 ∷ []) made.1)
       (λ (made : Node × List Node). item_with d B Field FieldBody (first_number X) (hanging at m.marker X) (made.0 ∷ []) made.1)
       (λ made k. item_with_alike B Field FieldBody (first_number X) (hanging at m.marker X) (made.0 ∷ []) made.1 k i)
@@ -150,29 +149,28 @@ module _ (all code later titles : Bool) (levels more : ℕ) (g h : Block → Num
       → Alike all ((content_nodes c B content >>= k) n) ((content_nodes d B content >>= k) n)
   content_then B content k n i = same_alike all (content_nodes c B content n) (content_nodes d B content n) k (content_alike B content n i)
 
-  right_alike : (given : ArgumentMeaning) (content : ContentKind) (B : Block) (line : ℕ) (read : Read) (lines : List ℕ) (n : ℕ) → Inside (directive_content given content B read.content)
-      → Alike all (right_by given content c B line read lines n) (right_by given content d B line read lines n)
-  right_alike no_argument Lines B line read lines n i = alike all _
-  right_alike no_argument content B line read lines n i = content_then B read.content _ n i
-  right_alike (title part) content B line read lines n i =
-      let rest : Node × List Node → List Node → Numbered (List Node) = λ made nodes. just (filled (titled_element read.kind.element (directive_element read.kind.element read.options line) made.0) (made.0 ∷ made.1 ++ nodes) ∷ []) in
+  opened_alike : (given : ArgumentMeaning) (B : Block) (line : ℕ) (read : Read) (lines : List ℕ) (n : ℕ) → Inside (content_blocks B read.content)
+      → Alike all (opened_nodes given c B line read lines n) (opened_nodes given d B line read lines n)
+  opened_alike (title part) B line read lines n i =
+      let rest : Node × List Node → List Node → Numbered (List Node) = λ made nodes. just (filled (titled_element read.kind.element (directive_element read.kind.element read.argument read.options line) made.0) (made.0 ∷ made.1 ++ nodes) ∷ []) in
       let X : Block = lines_in B part in
-      after_alike all (texted TitleTag (number_or line X) (joined X) (number_or line X) n) (λ (made : Node × List Node). content_nodes c B read.content >>= rest made) (λ (made : Node × List Node). content_nodes d B read.content >>= rest made)
+      after_alike all (texted (first_parts X) TitleTag (number_or line X) (joined X) (number_or line X) n) (λ (made : Node × List Node). content_nodes c B read.content >>= rest made) (λ (made : Node × List Node). content_nodes d B read.content >>= rest made)
       (λ made k. content_then B read.content (rest made) k i)
-  right_alike (uri address) Caption B line read lines n i = content_then B read.content _ n i
-  right_alike _ _ B line read lines n i = alike all _
+  opened_alike (uri address) B line read lines n i = content_then B read.content _ n i
+  opened_alike _ B line read lines n i = content_then B read.content _ n i
+
+  -- what holds blocks is read alike, and so is what holds none
+  blocks_alike : (B : Block) (content : Content) (some other closed : Numbered (List Node)) (n : ℕ) (b : Bool) → (Inside (content_blocks B content) → Alike all (some n) (other n)) → Inside (cond b (content_blocks B content) [])
+      → Alike all (cond b some closed n) (cond b other closed n)
+  blocks_alike B content some other closed n true h i = h i
+  blocks_alike B content some other closed n false h i = alike all _
 
   directive_alike : (o : Outcome) (B : Block) (s : Span) (name : List ℕ) (n : ℕ) → Inside (directive_blocks o B) → Alike all (directive_by o c B s name n) (directive_by o d B s name n)
-  directive_alike (found read) B s name n i = right_alike read.argument read.kind.content B (first_number (drop s.start B)) read _ n i
+  directive_alike (found read) B s name n i = blocks_alike B read.content _ _ _ n (has_blocks read.kind.content) (opened_alike read.argument B (first_number (drop s.start B)) read _ n) i
   directive_alike (wrong fault part) B s name n i = alike all _
 
-  definition_alike : (given : ArgumentMeaning) (B : Block) (line : ℕ) (name : List ℕ) (read : Read) (lines : List ℕ) (n : ℕ) → Inside (definition_content given B read.content)
-      → Alike all (definition_by given c B line name read lines n) (definition_by given d B line name read lines n)
-  definition_alike (uri address) B line name read lines n i = alike all _
-  definition_alike _ B line name read lines n i = content_then B read.content _ n i
-
-  holding_alike : (o : Outcome) (B : Block) (s : Span) (name written : List ℕ) (n : ℕ) → Inside (definition_blocks o B) → Alike all (definition_or_error o c B s name written n) (definition_or_error o d B s name written n)
-  holding_alike (found read) B s name written n i = definition_alike read.argument B (first_number (drop s.start B)) name read _ n i
+  holding_alike : (o : Outcome) (B : Block) (s : Span) (name written : List ℕ) (n : ℕ) → Inside (directive_blocks o B) → Alike all (definition_or_error o c B s name written n) (definition_or_error o d B s name written n)
+  holding_alike (found read) B s name written n i = blocks_alike B read.content _ _ _ n (has_blocks read.kind.content) (content_then B read.content _ n) i
   holding_alike (wrong fault part) B s name written n i = alike all _
 
   -- ---- explicit markup
@@ -180,7 +178,7 @@ module _ (all code later titles : Bool) (levels more : ℕ) (g h : Block → Num
   same_call : (B : Block) (at : ℕ) (call : Invocation) (place : Place) → AgreesAt code later B at call → called c B at call place ≡ called d B at call place
   same_call B at call place agree = agree place (is_single_paragraph (lines_in B call.block))
 
-  definitions_alike : (o p : Outcome) → o ≡ p → (B : Block) (s : Span) (name written : List ℕ) (n : ℕ) → Inside (definition_blocks o B) → Alike all (definition_or_error o c B s name written n) (definition_or_error p d B s name written n)
+  definitions_alike : (o p : Outcome) → o ≡ p → (B : Block) (s : Span) (name written : List ℕ) (n : ℕ) → Inside (directive_blocks o B) → Alike all (definition_or_error o c B s name written n) (definition_or_error p d B s name written n)
   definitions_alike o p e B s name written n i = subst (λ q. Alike all (definition_or_error o c B s name written n) (definition_or_error q d B s name written n)) e (holding_alike o B s name written n i)
 
   called_alike : (o p : Outcome) → o ≡ p → (B : Block) (s : Span) (name : List ℕ) (n : ℕ) → Inside (directive_blocks o B) → Alike all (directive_by o c B s name n) (directive_by p d B s name n)

@@ -33,7 +33,7 @@ use Rattle.rst_block_state.specs.looks.BudgetLaws.{is_trimmed, IsFronted, HaveAt
 use Rattle.rst_block_state.specs.Inside.{substitution_blocks, markup_blocks}
 use Rattle.rst_block_state.specs.Texts.{lines_in}
 use Rattle.rst_block_state.specs.Within.{Within}
-use Rattle.rst_block_markup.proofs.ContentFacts.{none_within, more_within, directive_within, call_blocks_within}
+use Rattle.rst_block_markup.proofs.ContentFacts.{none_within, more_within, directive_within}
 use Rattle.rst_block_state.proofs.MarkFacts.{Tells, label_tells, directive_tells}
 use Rattle.rst_block_state.proofs.PartFacts.{hanging_fronted, hanging_from, hanging_le}
 
@@ -101,7 +101,7 @@ embedded_is c B i n h inside = by (directive_mark_of false (drop n (first_text (
     by (Some d) tells =
         let call : Invocation = call_of i n d X in
         let k = call_is B i n d h inside tells in
-        more_within (length (lines_in B call.block)) (hanging_size X) _ k.2 (call_blocks_within c B i call InDefinition k.0 k.1)
+        more_within (length (lines_in B call.block)) (hanging_size X) _ k.2 (directive_within c B i call InDefinition k.0 k.1)
 
 label_is : (c : Within) (B : Block) (i : ℕ) (k : LabelKind) (label : Characters) (body : Part) → IsFronted (lines_in B body) → length (lines_in B body) ≤ hanging_size (drop i B)
     → HaveAtMostLines (hanging_size (drop i B)) (markup_blocks (label_with k label body) c B i)

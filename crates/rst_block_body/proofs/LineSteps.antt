@@ -3,6 +3,7 @@ use Rattle.std.proofs.Common.{◌≡◌, ℕ, ◌+◌, ◌-◌, ◌<◌, ◌≤�
 use Rattle.std.specs.Prelude.{if◌then◌else◌, box_value}
 use Rattle.std.specs.declared.string.String.{String}
 use Rattle.std.proofs.lemmas.Str.{chars-append, chars_from_encodes, encode_ascii}
+use Rattle.rst_settings.specs.declared.Parts.{Parts}
 use Rattle.rst_text.specs.Block.{Block, first_text, first_number, first_parts, cut, shorten_all}
 use Rattle.rst_text.specs.Text.{chars_of}
 use Rattle.rst_markup_lines.specs.declared.marker.Marker.{Marker}
@@ -64,16 +65,16 @@ line_cut B at f h =
     ap (λ n. shorten_all f 0 (take n (drop at B))) one ∙ first_cut f (drop at B) (omega (arith, length-drop at B, h))
 
 -- a line with text after its bar
-pub full_line : (B : Block) (m : Marker) (s : Span) (indent line last : ℕ) (t : List ℕ) (below : Block) → m.bare ≡ false → s.start < length B → indent ≡ m.cut - 2 → line ≡ first_number (drop s.start B)
+pub full_line : (B : Block) (m : Marker) (s : Span) (indent line last : ℕ) (t : List ℕ) (below : Block) (parts : Parts) → parts ≡ first_parts (drop s.start B) → m.bare ≡ false → s.start < length B → indent ≡ m.cut - 2 → line ≡ first_number (drop s.start B)
     → below ≡ below_bar B s → t ≡ text_over (drop m.cut (first_text (drop s.start B))) below
-    → (let l : IndentedLine = record { indent = indent; line = line; text_line = line; text = t } in l) ≡ indented_line (indentation_of last m) B m s
-full_line B m s indent line last t below bare h i n b e = rw (e, b, i, n, bare, line_cut B s.start m.cut h) refl
+    → (let l : IndentedLine = record { indent = indent; line = line; text_line = line; text = t; parts = parts } in l) ≡ indented_line (indentation_of last m) B m s
+full_line B m s indent line last t below parts asked bare h i n b e = rw (asked, e, b, i, n, bare, line_cut B s.start m.cut h) refl
 
 -- a line whose bar is alone
-pub bare_line : (B : Block) (m : Marker) (s : Span) (line text_line last : ℕ) (t : List ℕ) (below : Block) → m.bare ≡ true → line ≡ first_number (drop s.start B)
+pub bare_line : (B : Block) (m : Marker) (s : Span) (line text_line last : ℕ) (t : List ℕ) (below : Block) (parts : Parts) → parts ≡ first_parts (drop s.start B) → m.bare ≡ true → line ≡ first_number (drop s.start B)
     → below ≡ below_bar B s → text_line ≡ number_or line below → t ≡ joined below
-    → (let l : IndentedLine = record { indent = last; line = line; text_line = text_line; text = t } in l) ≡ indented_line (indentation_of last m) B m s
-bare_line B m s line text_line last t below bare n b k e = rw (e, k, b, n, bare) refl
+    → (let l : IndentedLine = record { indent = last; line = line; text_line = text_line; text = t; parts = parts } in l) ≡ indented_line (indentation_of last m) B m s
+bare_line B m s line text_line last t below parts asked bare n b k e = rw (asked, e, k, b, n, bare) refl
 
 -- ---- lines as they are kept
 

@@ -3,8 +3,9 @@ use Rattle.std.proofs.Common.{◌≡◌, ℕ, ◌+◌, ◌<◌, Bool, true, fals
 use Rattle.std.specs.Prelude.{◌||◌, slice_range}
 use Rattle.std.specs.Option.{option_and_then, option_map_or}
 use Rattle.std.proofs.lemmas.List.{drop-drop}
+use Rattle.rst_settings.specs.declared.Parts.{Parts}
 use Rattle.rst_text.proofs.Choices.{chosen}
-use Rattle.rst_text.specs.Block.{Block, first_text, first_number}
+use Rattle.rst_text.specs.Block.{Block, first_text, first_number, first_parts}
 use Rattle.rst_tree.specs.declared.node.Node.{Node}
 use Rattle.rst_tree.specs.declared.tag.Tag.{Tag}
 use Rattle.rst_tree.specs.declared.tag.Tag.TheVariants.{Definition as DefinitionTag, DefinitionListItem, Field as FieldTag, FieldBody, FieldName, OptionListItem, Description}
@@ -252,12 +253,13 @@ abbrev pub listed : Tag → Tag → ℕ → List Node → List Node → List Nod
 listed item body line heads notes ns = element_of item [] (heads ++ element_of body [] (notes ++ ns) line ∷ []) line
 
 -- a field is made of its name, whose text was read, and of its hanging block
-pub field_made : (c : Within) (B : Block) (i : ℕ) (mark : FieldMark) (X : Block) {line : ℕ} {text : List ℕ} {part : Part} {element : Node} {notes heads : List Node} (k : ℕ) {m : ℕ}
+pub field_made : (c : Within) (B : Block) (i : ℕ) (mark : FieldMark) (X : Block) {parts : Parts} {line : ℕ} {text : List ℕ} {part : Part} {element : Node} {notes heads : List Node} (k : ℕ) {m : ℕ}
+    → parts ≡ first_parts X
     → line ≡ first_number X → text ≡ slice_range (first_text X) mark.name.from mark.name.to → part ≡ hanging i mark.marker X → heads ≡ element ∷ []
-    → texted FieldName line text line k ≡ Ok ((element, notes), m)
+    → texted parts FieldName line text line k ≡ Ok ((element, notes), m)
     → item_by c B i (field_item mark) X k ≡ item_with c B FieldTag FieldBody line part heads notes m
-field_made c B i mark X k l t p h read =
-    rw (h, p, l) (ap (then_read (λ (made : Node × List Node). item_with c B FieldTag FieldBody (first_number X) (hanging i mark.marker X) (made.0 ∷ []) made.1)) (rw (t, l) at read))
+field_made c B i mark X k asked l t p h read =
+    rw (h, p, l) (ap (then_read (λ (made : Node × List Node). item_with c B FieldTag FieldBody (first_number X) (hanging i mark.marker X) (made.0 ∷ []) made.1)) (rw (t, l, asked) at read))
 
 -- an item of an option list is made of its options and of its hanging block
 pub option_made : (c : Within) (B : Block) (i : ℕ) (mark : Marker) (X : Block) {line : ℕ} {text : List ℕ} {part : Part} {group : Node} {notes heads : List Node} (k : ℕ)
@@ -266,8 +268,8 @@ pub option_made : (c : Within) (B : Block) (i : ℕ) (mark : Marker) (X : Block)
 option_made c B i mark X k l t p g h n = rw (h, n, g, p, l, t) refl
 
 -- a definition is made of its term and classifiers, whose text was read, and of the indented block below
-pub definition_made : (c : Within) (B : Block) (i : ℕ) (infos : List Node) (X : Block) {line : ℕ} {text : List ℕ} {part : Part} {heads notes : List Node} (k : ℕ) {m : ℕ}
-    → line ≡ first_number X → text ≡ first_text X → part ≡ indented_part (i + 1) (drop 1 X) → termed text line k ≡ Ok ((heads, notes), m)
+pub definition_made : (c : Within) (B : Block) (i : ℕ) (infos : List Node) (X : Block) {parts : Parts} {line : ℕ} {text : List ℕ} {part : Part} {heads notes : List Node} (k : ℕ) {m : ℕ}
+    → parts ≡ first_parts X → line ≡ first_number X → text ≡ first_text X → part ≡ indented_part (i + 1) (drop 1 X) → termed parts text line k ≡ Ok ((heads, notes), m)
     → item_by c B i (definition_item infos) X k ≡ item_with c B DefinitionListItem DefinitionTag line part heads notes m
-definition_made c B i infos X k l t p read =
-    rw (p, l) (ap (then_read (λ (made : List Node × List Node). item_with c B DefinitionListItem DefinitionTag (first_number X) (indented_part (i + 1) (drop 1 X)) made.0 made.1)) (rw (t, l) at read))
+definition_made c B i infos X k asked l t p read =
+    rw (p, l) (ap (then_read (λ (made : List Node × List Node). item_with c B DefinitionListItem DefinitionTag (first_number X) (indented_part (i + 1) (drop 1 X)) made.0 made.1)) (rw (t, l, asked) at read))

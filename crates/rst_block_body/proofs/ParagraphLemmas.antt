@@ -1,7 +1,7 @@
 -- Paragraphs, step by step.
 use Rattle.std.proofs.Common.{◌≡◌, ℕ, suc, ◌+◌, ◌-◌, ◌<◌, ◌≤◌, Bool, true, false, not, List, [], ◌∷◌, ◌++◌, length, length-drop, take, drop, Ok, refl, sym, ap, ◌∙◌, arith, append_assoc, append-nil}
 use Rattle.std.specs.Prelude.{codes, if◌then◌else◌}
-use Rattle.rst_text.specs.Block.{Block, first_text, first_number}
+use Rattle.rst_text.specs.Block.{Block, first_text, first_number, first_parts}
 use Rattle.rst_tree.specs.declared.node.Node.{Node}
 use Rattle.rst_tree.specs.declared.note.Level.TheVariants.{Error}
 use Rattle.rst_markup_lines.specs.Closing.{ends_in_colons}
@@ -49,8 +49,8 @@ pub between_plain : (t : List ℕ) (i j n next : ℕ) (B : Block) (more : List N
 between_plain t i j n next B more h w r =
     let line : ℕ = first_number (drop i B) in
     let same : announced t ≡ t = rw h refl in
-    ap (λ u. (text_paragraph line u >>= λ nodes. just (nodes ++ after_paragraph (j - i) t (drop i B))) n) same
-    ∙ same_after (text_paragraph line t n) (λ nodes. just (nodes ++ after_paragraph (j - i) t (drop i B))) (λ nodes. just (nodes ++ indentation_error (drop j B)))
+    ap (λ u. (text_paragraph (first_parts (drop i B)) line u >>= λ nodes. just (nodes ++ after_paragraph (j - i) t (drop i B))) n) same
+    ∙ same_after (text_paragraph (first_parts (drop i B)) line t n) (λ nodes. just (nodes ++ after_paragraph (j - i) t (drop i B))) (λ nodes. just (nodes ++ indentation_error (drop j B)))
     (λ nodes k. ap (λ (xs : List Node). just (nodes ++ xs) k) (after_plain t i j B h w))
     ∙ r
 
@@ -60,10 +60,10 @@ pub between_colons : (t u : List ℕ) (i j n next : ℕ) (B : Block) (more : Lis
 between_colons t u i j n next B more h e w r =
     let line : ℕ = first_number (drop i B) in
     let L : List Node = literal_nodes (first_number (drop (j - 1) B)) (drop j B) in
-    ap (λ x. (text_paragraph line x >>= λ nodes. just (nodes ++ after_paragraph (j - i) t (drop i B))) n) (sym e)
-    ∙ same_after (text_paragraph line u n) (λ nodes. just (nodes ++ after_paragraph (j - i) t (drop i B))) (λ nodes. just (nodes ++ indentation_error (drop j B)) >>= λ xs. just (xs ++ L))
+    ap (λ x. (text_paragraph (first_parts (drop i B)) line x >>= λ nodes. just (nodes ++ after_paragraph (j - i) t (drop i B))) n) (sym e)
+    ∙ same_after (text_paragraph (first_parts (drop i B)) line u n) (λ nodes. just (nodes ++ after_paragraph (j - i) t (drop i B))) (λ nodes. just (nodes ++ indentation_error (drop j B)) >>= λ xs. just (xs ++ L))
     (λ nodes k. ap (λ (xs : List Node). just (nodes ++ xs) k) (after_colons t i j B h w) ∙ ap (λ (xs : List Node). just xs k) (sym (append_assoc nodes (indentation_error (drop j B)) L)))
-    ∙ sym (after_after (text_paragraph line u n) (λ nodes. just (nodes ++ indentation_error (drop j B))) (λ xs. just (xs ++ L)))
+    ∙ sym (after_after (text_paragraph (first_parts (drop i B)) line u n) (λ nodes. just (nodes ++ indentation_error (drop j B))) (λ xs. just (xs ++ L)))
     ∙ ap (then_read (λ (xs : List Node). just (xs ++ L))) r
 
 pub end_plain : (t : List ℕ) (j : ℕ) (B : Block) → ends_in_colons t ≡ false → j ≡ paragraph_end t j B
@@ -111,8 +111,8 @@ pub between_all : (B : Block) (i j n : ℕ) (t : List ℕ) → IsParagraph B i j
 between_all B i j n t p =
     let X : Block = drop i B in
     let size : j - i ≡ paragraph_len (drop i B) = omega (arith, len_is B i j t p) in
-    ap (λ u. (text_paragraph (first_number X) (announced u) >>= λ nodes. just (nodes ++ after_paragraph (j - i) u X)) n) p.text
-    ∙ ap (λ k. (text_paragraph (first_number X) (announced (joined (take k X))) >>= λ nodes. just (nodes ++ after_paragraph k (joined (take k X)) X)) n) size
+    ap (λ u. (text_paragraph (first_parts X) (first_number X) (announced u) >>= λ nodes. just (nodes ++ after_paragraph (j - i) u X)) n) p.text
+    ∙ ap (λ k. (text_paragraph (first_parts X) (first_number X) (announced (joined (take k X))) >>= λ nodes. just (nodes ++ after_paragraph k (joined (take k X)) X)) n) size
 
 pub end_all : (B : Block) (i j : ℕ) (t : List ℕ) → IsParagraph B i j t → paragraph_end t j B ≡ i + paragraph_size (drop i B)
 end_all B i j t p =
@@ -145,6 +145,6 @@ pub after_infos : (infos : List Node) (X : Block) (n next : ℕ) (more : List No
 after_infos infos X n next more r =
     let t : List ℕ = joined (take (paragraph_len X) X) in
     let A : List Node = after_paragraph (paragraph_len X) t X in
-    let read = text_paragraph (first_number X) (announced t) n in
+    let read = text_paragraph (first_parts X) (first_number X) (announced t) n in
     same_after read (λ nodes. just (infos ++ nodes ++ A)) (λ nodes. just (nodes ++ A) >>= λ xs. just (infos ++ xs)) (λ nodes k. ap (λ (xs : List Node). just xs k) (append_assoc infos nodes A))
     ∙ sym (after_after read (λ nodes. just (nodes ++ A)) (λ xs. just (infos ++ xs))) ∙ ap (then_read (λ (xs : List Node). just (infos ++ xs))) r

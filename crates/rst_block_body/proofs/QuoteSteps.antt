@@ -2,7 +2,7 @@
 use Rattle.std.proofs.Common.{◌≡◌, ℕ, zero, suc, ◌+◌, ◌-◌, ◌<◌, ◌≤◌, Bool, cond, List, [], ◌∷◌, ◌++◌, length, length-drop, take, drop, map, Option, Some, None, option_map, Ok, Box, box_value, Global, arith, refl, sym, ◌∙◌, ap, subst, append-nil, append_assoc, inl, inr, lt-ltb, le-ltb, ne_eqb, if◌then◌else◌}
 use Rattle.std.proofs.lemmas.Bool.{cases_lt}
 use Rattle.std.proofs.lemmas.List.{drop_all, drop-drop, map-append}
-use Rattle.rst_text.specs.Block.{Block, cut, shorten_all, first_number}
+use Rattle.rst_text.specs.Block.{Block, cut, shorten_all, first_number, first_parts}
 use Rattle.rst_text.specs.Extent.{extent}
 use Rattle.rst_text.proofs.CutLaws.{take-cut, drop-cut, length-cut}
 use Rattle.rst_tree.specs.declared.attrs.Attr.{Attr}
@@ -168,7 +168,7 @@ plain_part old new B p line n L is none size filled m at h =
 -- L are the lines of a part in which an attribution was found, whose text was read
 pub attributed_part : (old new : OpenBlock) (B : Block) (p : Part) (k next line n m : ℕ) (a : Attribution) (made : Texted) (box : Box Texted Global) (L : Block) → L ≡ lines_in B p
     → Some (k, a) ≡ first_attribution L → next ≡ a.end + lines_while Blank (drop a.end L)
-    → texted AttributionTag (first_number (drop k L)) (joined (lines_in L (attribution_part k a))) (first_number (drop k L)) n ≡ Ok ((made.element, made.notes.items), m)
+    → texted (first_parts (drop k L)) AttributionTag (first_number (drop k L)) (joined (lines_in L (attribution_part k a))) (first_number (drop k L)) n ≡ Ok ((made.element, made.notes.items), m)
     → box_value box ≡ made → p.from < p.to → p.to ≤ length B
     → IsMoved old new → new.at ≡ p.from + next → line ≡ first_number (drop p.from B)
     → comes new B (Open (Quote line (Some box) (rest_of p next) p.to) (first_lines_of p k) None) m ≡ quotes_from old B [] p n

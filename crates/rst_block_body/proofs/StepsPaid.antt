@@ -1,5 +1,5 @@
 -- The looks of one step after the other.
-use Rattle.std.proofs.Common.{◌≡◌, ℕ, ◌+◌, ◌-◌, ◌*◌, ◌<◌, ◌≤◌, Bool, [], length, drop, Option, Some, None, Result, IfOk, arith, refl, ap, sym, subst, ◌∙◌}
+use Rattle.std.proofs.Common.{◌≡◌, ℕ, ◌+◌, ◌-◌, ◌*◌, ◌<◌, ◌≤◌, Bool, [], length, drop, Result, IfOk, arith, refl, ap, sym, ◌∙◌}
 use Rattle.std.specs.Prelude.{◌==◌}
 use Rattle.std.proofs.lemmas.Result.{IfOk-weaker}
 use Rattle.rst_text.specs.Looked.{capped}
@@ -10,24 +10,19 @@ use Rattle.rst_markup_blocks.specs.Partition.{construct_size}
 use Rattle.rst_markup_blocks.specs.TableRows.{grid_size, grid_scan, grid_reach, simple_size, simple_scan, simple_reach}
 use Rattle.rst_markup_blocks.specs.declared.begun.Begun.{Begun}
 use Rattle.rst_markup_blocks.specs.declared.begun.Begun.TheVariants as begun
-use Rattle.rst_markup_blocks.specs.declared.part.Part.{Part}
 use Rattle.rst_markup_blocks.proofs.PartitionLemmas.{end_inside}
 use Rattle.rst_markup_tables.specs.Ends.{end_of}
 use Rattle.rst_markup_tables.specs.declared.results.TableFault.{TableFault}
 use Rattle.rst_markup_tables.specs.declared.results.TableResult.{TableResult}
 use Rattle.rst_markup_tables.specs.declared.results.TableResult.TheVariants.{Malformed}
-use Rattle.rst_block_state.specs.looks.Budget.{sum_of}
 use Rattle.rst_block_state.specs.Inside.{cell_blocks}
-use Rattle.rst_block_state.specs.looks.Ledger.{unread_at, totals, place_after, next_blocks, next_cells, run_looks, end_looks, most_after, least_after, most_left, least_left, GoesOn, IsPaid, Takes}
-use Rattle.rst_block_state.specs.machine.Meanings.{deepest}
+use Rattle.rst_block_state.specs.looks.Ledger.{unread_at, totals, place_after, next_blocks, next_cells, run_looks, end_looks, most_left, least_left, GoesOn, IsPaid, Takes}
 use Rattle.rst_block_state.specs.machine.NextLine.{IsTableAt}
 use Rattle.rst_block_state.specs.looks.Reaches.{reach_at}
-use Rattle.rst_block_state.specs.Texts.{lines_in}
 use Rattle.rst_block_nodes.specs.declared.fault.BlockFault.{BlockFault}
 use Rattle.rst_block_state.specs.declared.open_block.OpenBlock.{OpenBlock}
-use Rattle.rst_block_state.specs.declared.waits.Waits.{Waits}
 use Rattle.rst_block_state.specs.declared.step.Step.{Step}
-use Rattle.rst_block_state.specs.declared.step.Step.TheVariants.{Next, Open, Cells}
+use Rattle.rst_block_state.specs.declared.step.Step.TheVariants.{Next, Cells}
 use Rattle.rst_block_state.proofs.LedgerLemmas.{construct, size_reached}
 use Rattle.rst_block_state.proofs.NextConstructs.{IsFilled, next_of}
 use Rattle.rst_block_state.proofs.PaidSteps.{one_look, paid_next, reach_of}

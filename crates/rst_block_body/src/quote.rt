@@ -1,6 +1,6 @@
 //! Block quotes with their attributions (Markup Specification, 'Block Quotes').
 ghost use Rattle.std.specs.Prelude.{◌≡◌, [], ◌+◌, ◌-◌, ◌*◌, ◌<◌, ◌≤◌, length, drop, Ok, IfOk, IfSome, IfNone};
-ghost use Rattle.rst_text.specs.Block.{first_number};
+ghost use Rattle.rst_text.specs.Block.{first_number, first_parts};
 ghost use Rattle.rst_text.specs.Looked.{Looked, capped};
 ghost use Rattle.rst_text.specs.ViewBlock.{block_of};
 ghost use Rattle.rst_tree.specs.declared.tag.Tag.TheVariants.{Attribution as AttributionTag};
@@ -15,7 +15,9 @@ ghost use Rattle.rst_block_state.specs.looks.Ledger.{AreQuotesPaid};
 ghost use Rattle.rst_block_body.specs.ReadSteps.{BeginsAt, IsReadStep};
 
 use rst_block_nodes::{Texted, with_text};
-use rst_block_state::{OpenBlock, Pass, Result, Step, Waits, indented, inside, joined, number_at};
+use rst_block_state::{
+    OpenBlock, Pass, Result, Step, Waits, indented, inside, joined, number_at, parts_at,
+};
 use rst_markup_blocks::{Attribution, LineTest, Part, attribution_at, lines_end};
 use rst_text::{Looks, View};
 use rst_tree::Tag;
@@ -129,12 +131,13 @@ fn attribution_text(
     requires inside { IsBlock (block_of lines.now) (attribution_part place found) }
     ensures text { let Q = block_of lines.now in
         let line = first_number (drop place Q) in
-        let read = texted AttributionTag line (joined (lines_in Q (attribution_part place found))) line pass.old.numbers in
+        let read = texted (first_parts (drop place Q)) AttributionTag line (joined (lines_in Q (attribution_part place found))) line pass.old.numbers in
         IfOk result (λ made. read ≡ Ok ((made.element, made.notes.items), pass.new.numbers)) }
     ensures most { pass.new.looks ≤ pass.old.looks + (found.end - place) }
     ensures each { IfOk result (λ _. capped (pass.old.looks + (found.end - place)) ≤ pass.new.looks) }
 {
     let line = number_at(lines, place);
+    let parts = parts_at(lines, place);
     let text = inside(
         lines,
         Part {
@@ -147,6 +150,14 @@ fn attribution_text(
     let text = joined(pass.alloc, &text, &mut pass.looks)?;
     let text = text.as_str();
     let numbers = &mut pass.numbers;
-    let made = with_text(pass.alloc, Tag::Attribution, line, text, line, numbers)?;
+    let made = with_text(
+        pass.alloc,
+        parts,
+        Tag::Attribution,
+        line,
+        text,
+        line,
+        numbers,
+    )?;
     Ok(made)
 }

@@ -5,7 +5,7 @@ use Rattle.std.specs.List.{AllByRecursion}
 use Rattle.std.specs.Option.{IfSome}
 use Rattle.std.proofs.lemmas.Bool.{cond_both}
 use Rattle.rst_settings.specs.Profile.{Profile}
-use Rattle.rst_text.specs.Block.{Block, first_number, indentation, is_blank}
+use Rattle.rst_text.specs.Block.{Block, first_number, first_parts, indentation, is_blank}
 use Rattle.rst_tree.specs.declared.tag.Tag.TheVariants.{DoctestBlock}
 use Rattle.rst_markup_blocks.specs.Conditions.{next_text}
 use Rattle.rst_markup_blocks.specs.Explicit.{explicit_of}
@@ -89,7 +89,7 @@ module _ (P : ℕ → Bool) (T : List ℕ → Type 0) (s : Suited P T) where
     piece_fits j transition g r h = give ((omega arith, (tt, tt)), tt)
     piece_fits j (overlined_title mark short) g r h =
         let X : Block = drop g.start B in
-        title_fits T P s j (omega arith) _ (unindented (next_text X)) (first_number (drop 1 X)) short (first_number X) (codes "Title overline too short.") (span_source B g) h
+        title_fits T P s j (omega arith) (first_parts X) _ (unindented (next_text X)) (first_number (drop 1 X)) short (first_number X) (codes "Title overline too short.") (span_source B g) h
         (all_drop _ (indentation (next_text X)) (next_text X) (first_kept P (drop 1 X) (all_drop _ 1 X (all_drop _ g.start B b)))) (fixed_has P T s _ refl) (source_has P T s B g b)
     piece_fits j (misplaced_lines level text) g r h = give (message_fits T j (omega arith) level (first_number (drop g.start B)) text (Some (span_source B g)) h (source_has P T s B g b), tt)
     piece_fits j (underlined_title infos short) g r h =

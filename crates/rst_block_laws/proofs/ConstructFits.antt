@@ -4,7 +4,8 @@ use Rattle.std.specs.Prelude.{◌&&◌, ◌==◌, slice_range}
 use Rattle.std.specs.Char.{is_whitespace}
 use Rattle.std.specs.Str.{drop_trailing_whitespace}
 use Rattle.std.proofs.lemmas.Bool.{cond_both}
-use Rattle.rst_text.specs.Block.{Block, first_number, first_text}
+use Rattle.rst_settings.specs.declared.Parts.{Parts}
+use Rattle.rst_text.specs.Block.{Block, first_number, first_text, first_parts}
 use Rattle.rst_tree.specs.declared.node.Node.{Node}
 use Rattle.rst_tree.specs.declared.tag.Tag.{Tag}
 use Rattle.rst_tree.specs.declared.tag.Tag.TheVariants.{Attribution as AttributionTag, BlockQuote, Comment as CommentTag, Definition, DefinitionListItem, Description, Field, FieldBody, FieldName, ListItem, OptionListItem, Paragraph}
@@ -62,7 +63,7 @@ module _ (P : ℕ → Bool) (T : List ℕ → Type 0) (s : Suited P T) where
     quote_fits Q others h None q = after (inside Q q) (λ nodes own. give (open_fits T BlockQuote [] (first_number Q) k (k + 2) nodes (λ c. refl) tt own (omega arith), tt))
     quote_fits Q others h (Some (i, a)) q =
         gives (λ n.
-        let own = texted_fit P T s (k + 1) (k + 2) (omega arith) (omega arith) AttributionTag (first_number (drop i Q)) _ (first_number (drop i Q)) n (λ c. refl) (joined_kept P T s _ (lines_kept P Q (attribution_part i a) q)) in
+        let own = texted_fit P T s (first_parts (drop i Q)) (k + 1) (k + 2) (omega arith) (omega arith) AttributionTag (first_number (drop i Q)) _ (first_number (drop i Q)) n (λ c. refl) (joined_kept P T s _ (lines_kept P Q (attribution_part i a) q)) in
         (after (inside (take i Q) (all_take _ i Q q)) (λ nodes inner. after (h (quote_after Q a) (all_drop _ (lines_while Blank (drop a.end Q)) (drop a.end Q) (all_drop _ a.end Q q)))
         (λ more rest.
         let quote = open_fits T BlockQuote [] (first_number Q) (k + 1) (k + 2) _ (λ c. refl) tt (all_append _ nodes (_ ∷ []) (fit_more T k (k + 1) nodes (omega arith) inner) (own.0, tt)) (omega arith) in
@@ -91,13 +92,13 @@ module _ (P : ℕ → Bool) (T : List ℕ → Type 0) (s : Suited P T) where
     item_fits B i (definition_item infos) X b h =
         let kept = first_kept P X h in
         gives (λ n. (item_with_fits B DefinitionListItem Definition (first_number X) (indented_part (i + 1) (drop 1 X)) _ _ (λ c. refl) (λ c. refl) b
-        (fit_more T 4 (k + 1) _ (omega arith) (terms_fit P T s (first_text X) (first_number X) n kept)) (read_notes_fit P T s k some (first_text X) (first_number X) n kept)).at _)
+        (fit_more T 4 (k + 1) _ (omega arith) (terms_fit P T s (first_parts X) (first_text X) (first_number X) n kept)) (read_notes_fit P T s k some (first_parts X) (first_text X) (first_number X) n kept)).at _)
     item_fits B i (field_item m) X b h =
         let line : ℕ = first_number X in
         let name : List ℕ = slice_range (first_text X) m.name.from m.name.to in
         gives (λ n.
-        let own = texted_fit P T s (k + 1) k (omega arith) some FieldName line name line n (λ c. refl) (all_range _ (first_text X) m.name.from m.name.to (first_kept P X h)) in
-        (item_with_fits B Field FieldBody line (hanging i m.marker X) (texted_node FieldName line name line n ∷ []) _ (λ c. refl) (λ c. refl) b (own.0, tt) own.1).at _)
+        let own = texted_fit P T s (first_parts X) (k + 1) k (omega arith) some FieldName line name line n (λ c. refl) (all_range _ (first_text X) m.name.from m.name.to (first_kept P X h)) in
+        (item_with_fits B Field FieldBody line (hanging i m.marker X) (texted_node (first_parts X) FieldName line name line n ∷ []) _ (λ c. refl) (λ c. refl) b (own.0, tt) own.1).at _)
     item_fits B i (option_item m) X b h =
         let own = group_fits P T s (first_text X) (first_number X) (first_kept P X h) in
         item_with_fits B OptionListItem Description (first_number X) (hanging i m X) (option_group (first_text X) (first_number X) ∷ []) [] (λ c. refl) (λ c. refl) b ((omega (arith, own.0), own.1), tt) tt
@@ -113,8 +114,8 @@ module _ (P : ℕ → Bool) (T : List ℕ → Type 0) (s : Suited P T) where
     markup_fits (Citation label body) B g X b h =
         noted_fits B (citation_node (excerpt (first_text X) label) (first_number X)) body b (citation_fits P T s (excerpt (first_text X) label) (first_number X) (excerpt_has P T s (first_text X) label (first_kept P X h)))
     markup_fits (Target name text) B g X b h =
-        give (target_fits P T s (k + 2) (omega arith) (Some (excerpt (first_text X) name)) _ (first_number X) (excerpt_has P T s (first_text X) name (first_kept P X h)) (spelled_has P T s (lines_in B text) (lines_kept P B text b)), tt)
-    markup_fits (Anonymous text) B g X b h = give (target_fits P T s (k + 2) (omega arith) None _ (first_number X) tt (spelled_has P T s (lines_in B text) (lines_kept P B text b)), tt)
+        give (target_fits P T s (first_parts X).mail (k + 2) (omega arith) (Some (excerpt (first_text X) name)) _ (first_number X) (excerpt_has P T s (first_text X) name (first_kept P X h)) (spelled_has P T s (lines_in B text) (lines_kept P B text b)), tt)
+    markup_fits (Anonymous text) B g X b h = give (target_fits P T s (first_parts X).mail (k + 2) (omega arith) None _ (first_number X) tt (spelled_has P T s (lines_in B text) (lines_kept P B text b)), tt)
     markup_fits (Substitution name embedded end) B g X b h = substitution_fits P T s c k some inside B g (excerpt (first_text X) name) embedded b (excerpt_has P T s (first_text X) name (first_kept P X h))
     markup_fits (Directive call) B g X b h = directive_fits P T s c k some inside B g call b
     markup_fits (Comment text cause) B g X b h =
@@ -124,12 +125,12 @@ module _ (P : ℕ → Bool) (T : List ℕ → Type 0) (s : Suited P T) where
   -- ---- paragraphs
 
   module _ (j : ℕ) (some : 4 ≤ j) where
-    text_fits : (line : ℕ) (t : List ℕ) → Kept P t → Gives (AllFit T j) (text_paragraph line t)
-    text_fits line [] h = give tt
-    text_fits line (c ∷ cs) h = gives (λ n. texted_fit P T s j j some (omega arith) Paragraph line (c ∷ cs) line n (λ c. refl) h)
+    text_fits : (parts : Parts) (line : ℕ) (t : List ℕ) → Kept P t → Gives (AllFit T j) (text_paragraph parts line t)
+    text_fits parts line [] h = give tt
+    text_fits parts line (c ∷ cs) h = gives (λ n. texted_fit P T s parts j j some (omega arith) Paragraph line (c ∷ cs) line n (λ c. refl) h)
 
     pub paragraph_fits : (infos : List Node) (X : Block) → BlockKept P X → AllFit T 3 infos → Gives (AllFit T j) (paragraph_nodes infos X)
     paragraph_fits infos X h i =
         let n : ℕ = paragraph_len X in
-        after (text_fits (first_number X) _ (announced_kept (joined (take n X)) (joined_kept P T s (take n X) (all_take _ n X h))))
+        after (text_fits (first_parts X) (first_number X) _ (announced_kept (joined (take n X)) (joined_kept P T s (take n X) (all_take _ n X h))))
         (λ nodes own. give (all_append _ (infos ++ nodes) _ (all_append _ infos nodes (fit_more T 3 j infos (omega arith) i) own) (after_fit P T s j (omega arith) n (joined (take n X)) X h)))

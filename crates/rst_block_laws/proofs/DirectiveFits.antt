@@ -1,47 +1,47 @@
 -- The nodes of directives and of substitution definitions have at most two levels more than the blocks inside, and their texts have a property.
-use Rattle.std.proofs.Common.{ℕ, ◌+◌, ◌≤◌, Bool, true, false, List, [], ◌∷◌, drop, take, Option, None, Some, arith, refl}
+use Rattle.std.proofs.Common.{ℕ, ◌+◌, ◌≤◌, Bool, true, false, List, [], ◌∷◌, drop, length, take, Option, None, Some, arith, refl}
 use Rattle.std.specs.Prelude.{codes, encode_utf8_all}
 use Rattle.std.specs.List.{AllByRecursion, fold}
 use Rattle.std.specs.Option.{IfSome, is_some, option_or}
 use Rattle.std.specs.Str.{chars}
 use Rattle.std.proofs.lemmas.Bool.{cond_both}
-use Rattle.rst_text.specs.Block.{Block, first_number, first_text}
+use Rattle.rst_settings.specs.declared.Parts.{Parts}
+use Rattle.rst_text.specs.Block.{Block, first_number, first_text, first_parts}
 use Rattle.rst_tree.specs.Attributes.{attr, value_of, with_attr}
 use Rattle.rst_tree.specs.declared.attrs.Attr.{Attr}
 use Rattle.rst_tree.specs.declared.attrs.Value.TheVariants.{Text as TextValue}
 use Rattle.rst_tree.specs.declared.key.Key.{Key}
-use Rattle.rst_tree.specs.declared.key.Key.TheVariants.{Classes, Uri}
+use Rattle.rst_tree.specs.declared.key.Key.TheVariants.{Classes, Format, Uri, XmlSpace}
 use Rattle.rst_tree.specs.declared.node.Node.{Node}
 use Rattle.rst_tree.specs.declared.node.Node.TheVariants.{Element, Text as Words}
 use Rattle.rst_tree.specs.declared.note.Level.{Level}
 use Rattle.rst_tree.specs.declared.note.Level.TheVariants.{Error, Warning}
 use Rattle.rst_tree.specs.declared.tag.Tag.{Tag}
-use Rattle.rst_tree.specs.declared.tag.Tag.TheVariants.{Admonition, Caption as CaptionTag, Comment, Figure as FigureTag, Image, Legend, LiteralBlock, Paragraph, SubstitutionDefinition, Title as TitleTag}
+use Rattle.rst_tree.specs.declared.tag.Tag.TheVariants.{Admonition, Caption as CaptionTag, Comment, Figure as FigureTag, Image, Legend, Paragraph, SubstitutionDefinition, Title as TitleTag}
 use Rattle.rst_tree.specs.Forest.{bare}
 use Rattle.rst_tree.specs.Nodes.{forest_of}
 use Rattle.rst_markup_blocks.specs.declared.forms.Invocation.{Invocation}
 use Rattle.rst_markup_blocks.specs.Partition.{Span}
-use Rattle.rst_markup_directives.specs.Argument.{ArgumentMeaning, nothing, title, uri, language}
+use Rattle.rst_markup_directives.specs.Argument.{ArgumentMeaning, title, uri, language, formats, classes}
 use Rattle.rst_markup_directives.specs.declared.found.Content.{Content}
 use Rattle.rst_markup_directives.specs.declared.found.Place.TheVariants.{Substitution}
-use Rattle.rst_markup_directives.specs.declared.kind.ContentKind.{ContentKind}
-use Rattle.rst_markup_directives.specs.declared.kind.ContentKind.TheVariants.{Lines, Caption}
 use Rattle.rst_markup_directives.specs.declared.option.OptionName.{OptionName}
 use Rattle.rst_markup_directives.specs.declared.option.OptionName.TheVariants.{Name}
 use Rattle.rst_markup_directives.specs.Directive.{Read}
-use Rattle.rst_markup_directives.specs.Message.{fault_text}
+use Rattle.rst_markup_directives.specs.Kind.{has_blocks, is_marked}
+use Rattle.rst_markup_directives.specs.Message.{fault_level, fault_text}
 use Rattle.rst_markup_directives.specs.Options.{OptionSetting}
 use Rattle.rst_markup_directives.specs.Value.{Meaning}
-use Rattle.rst_markup_directives.specs.Wrong.{Fault, inside as within, no_content, not_in_substitution, unknown_directive}
+use Rattle.rst_markup_directives.specs.Wrong.{Fault, disabled, inside as within, invalid_classes, no_content, not_in_substitution, unknown_directive}
 use Rattle.rst_block_nodes.specs.Admonitions.{title_class}
-use Rattle.rst_block_nodes.specs.Elements.{preserving, text_nodes}
-use Rattle.rst_block_nodes.specs.Options.{image_node, link_attrs, link_chosen, link_meant, linked_by, with_alt, value_meant, with_value_at}
+use Rattle.rst_block_nodes.specs.Elements.{element_of, preserving, substitution_definition_node, text_nodes}
+use Rattle.rst_block_nodes.specs.Options.{body_attrs, given_attrs, image_node, link_attrs, link_chosen, link_meant, linked_by, literal_element, with_alt, value_meant, with_value_at}
 use Rattle.rst_block_nodes.specs.Readings.{read_nodes, read_notes}
 use Rattle.rst_block_nodes.specs.Sections.{filled}
 use Rattle.rst_block_nodes.specs.Targets.{may_replace}
 use Rattle.rst_block_nodes.specs.Texts.{counting}
 use Rattle.rst_block_nodes.specs.Values.{normalized, unescaped}
-use Rattle.rst_block_state.specs.Directives.{code_nodes, content_nodes, definition_by, definition_or_error, directive_by, directive_nodes, faulty_name, first_paragraph, right_by, substitution_nodes, titled_element}
+use Rattle.rst_block_state.specs.Directives.{closed_by, content_lines, content_nodes, definition_nodes, definition_or_error, directive_by, directive_nodes, element_by, faulty_name, first_paragraph, opened_by, right_nodes, substitution_nodes, text_nodes as text_of_directive, titled_element}
 use Rattle.rst_block_state.specs.Figures.{figure_nodes, legend_nodes, message_count}
 use Rattle.rst_block_state.specs.LineRuns.{number_or}
 use Rattle.rst_block_state.specs.Numbered.{just}
@@ -59,7 +59,7 @@ use Rattle.rst_tree_laws.proofs.Have.{with_attr_has, without_key_has}
 use Rattle.rst_block_laws.proofs.LineTexts.{excerpt_has, first_kept, joined_kept, lines_kept, source_has, spelled_has}
 use Rattle.rst_tree_laws.proofs.Lists.{all_append, all_drop, all_take}
 use Rattle.rst_tree_laws.proofs.Properties.{Suited, fixed_has, normalized_kept, unescaped_kept}
-use Rattle.rst_block_laws.proofs.Weights.{HoldsAny, Open, light_at}
+use Rattle.rst_block_laws.proofs.Weights.{HoldsAny, Open, light_at, open_counts}
 use borrow.Author.Tests.{le-leb}
 
 module _ (P : ℕ → Bool) (T : List ℕ → Type 0) (s : Suited P T) (c : Within) (k : ℕ) (some : 3 ≤ k) (inside : (B : Block) → BlockKept P B → Gives (AllFit T k) (c.inner B)) where
@@ -68,6 +68,9 @@ module _ (P : ℕ → Bool) (T : List ℕ → Type 0) (s : Suited P T) (c : With
   fault_has unknown_directive name h k = quoted_has P T s (codes "Unknown directive type \"") name (codes "\".") refl refl k
   fault_has (within w) name h k = s.append _ _ (quoted_has P T s (codes "Error in \"") name (codes "\" directive:\n") refl refl k) h
   fault_has no_content name h k = quoted_has P T s (codes "Content block expected for the \"") name (codes "\" directive; none found.") refl refl k
+  fault_has (invalid_classes text) name h k =
+      s.append _ _ (fixed_has P T s (codes "Invalid class attribute value for \"") refl) (s.append name _ k (s.append _ _ (fixed_has P T s (codes "\" directive: \"") refl) (s.append _ _ h (fixed_has P T s (codes "\".") refl))))
+  fault_has disabled name h k = quoted_has P T s (codes "\"") name (codes "\" directive disabled.") refl refl k
   fault_has _ name h k = fixed_has P T s _ refl
 
   -- ---- options and images
@@ -82,7 +85,7 @@ module _ (P : ℕ → Bool) (T : List ℕ → Type 0) (s : Suited P T) (c : With
   give_one : {n : Node} → Fits T (k + 2) n → Gives (AllFit T (k + 2)) (just (n ∷ []))
   give_one h = give (h, tt)
 
-  -- an image, or the reference round it, which may be in a substitution definition
+  -- an image, the reference round it, or a literal, which may be in a substitution definition
   abbrev ImageFits : Node → Type 0
   ImageFits n = Fits T 2 n × (levels_by 2 (forest_of (n ∷ [])) ≤ 2)
 
@@ -97,10 +100,41 @@ module _ (P : ℕ → Bool) (T : List ℕ → Type 0) (s : Suited P T) (c : With
   image_fits address choices line true alt h own = linked_fits choices _ line h (chosen_has _ (elim [ Name ↦ λ m h. h | _ ↦ λ m h. tt ]) choices (with_alt alt (attr Uri (TextValue address) ∷ [])) h own)
   image_fits address choices line false alt h own = linked_fits choices _ line h (chosen_has _ (elim [ Name ↦ λ m h. h | _ ↦ λ m h. tt ]) choices (with_alt alt (attr Uri (TextValue address) ∷ [])) h own)
 
-  code_fits : (B : Block) (line : ℕ) (read : Read) (word : Option (List ℕ)) → BlockKept P B → ReadHas P T s read → Gives (AllFit T (k + 2)) (just (code_nodes B line read word))
-  code_fits B line read word b h =
-      give_one (open_fits T LiteralBlock _ line 1 (k + 2) _ (λ c. refl) (with_attr_has T Classes _ _ tt (without_key_has T Classes _ (chosen_has _ (elim [ Name ↦ λ m h. h | _ ↦ λ m h. tt ]) read.options preserving h.1 (tt, tt))))
-      (elim (spelled (lines_in B read.content.second)) as (λ t. T t → AllFit T 1 (text_nodes t)) [ [] ↦ λ h. tt | b ∷ bs ↦ λ h. ((omega arith, h), tt) ] (spelled_has P T s _ (lines_kept P B read.content.second b))) (omega arith))
+  content_kept : (B : Block) (content : Content) → BlockKept P B → BlockKept P (content_lines B content)
+  content_kept B content b = all_append _ (lines_in B content.first) (lines_in B content.second) (lines_kept P B content.first b) (lines_kept P B content.second b)
+
+  given_has : (given : ArgumentMeaning) (attrs : List Attr) → AttrsHave T attrs → AttrsHave T (given_attrs given attrs)
+  given_has (language word) attrs own = with_attr_has T Classes _ _ tt (without_key_has T Classes attrs own)
+  given_has (formats text) attrs own = with_attr_has T Format _ attrs tt own
+  given_has (classes text (Some ids)) attrs own = with_attr_has T Classes _ attrs tt own
+  given_has _ attrs own = own
+
+  body_has : (read : Read) (attrs : List Attr) → ReadHas P T s read → AttrsHave T attrs → AttrsHave T (body_attrs read.options attrs)
+  body_has read attrs h own = chosen_has _ (elim [ Name ↦ λ m h. h | _ ↦ λ m h. tt ]) read.options attrs h.1 own
+
+  literal_fits : (given : ArgumentMeaning) (B : Block) (line : ℕ) (read : Read) → BlockKept P B → ReadHas P T s read → ImageFits (literal_element read.kind.element given read.options (spelled (content_lines B read.content)) line)
+  literal_fits given B line read b h =
+      let plain = open_counts read.kind.element 2 h.0 in
+      let own : AttrsHave T (given_attrs given (body_attrs read.options preserving)) = given_has given (body_attrs read.options preserving) (body_has read preserving h (tt, tt)) in
+      elim (spelled (content_lines B read.content)) as (λ t. T t → ImageFits (element_of read.kind.element (given_attrs given (body_attrs read.options preserving)) (text_nodes t) line)) [
+        | [] ↦ λ k. (open_fits T read.kind.element _ line 1 2 [] h.0 own tt (omega arith), omega (arith, plain))
+        | b ∷ bs ↦ λ k. (open_fits T read.kind.element _ line 1 2 (text_nodes (b ∷ bs)) h.0 own ((omega arith, k), tt) (omega arith), omega (arith, plain))
+      ] (spelled_has P T s _ (content_kept B read.content b))
+
+  element_fits : (given : ArgumentMeaning) (alt : Option (List ℕ)) (B : Block) (line : ℕ) (read : Read) → IfSome alt T → BlockKept P B → ReadHas P T s read → ImageFits (element_by given alt B line read)
+  element_fits (uri address) alt B line read t b h = image_fits (encode_utf8_all address) read.options line false alt h.1 (elim alt as (λ alt. AttrsHave T (with_alt alt (attr Uri (TextValue (encode_utf8_all address)) ∷ []))) [ None ↦ (tt, tt) | Some name ↦ (tt, (tt, tt)) ])
+  element_fits given alt B line read t b h = literal_fits given B line read b h
+
+  -- the text of a directive
+  marked_fits : (parts : Parts) (literal : Bool) (line : ℕ) (read : Read) (text : Block) → BlockKept P text → ReadHas P T s read → Gives (AllFit T (k + 2)) (text_of_directive parts literal line read text)
+  marked_fits parts literal line read text b h =
+      let kept : Kept P (joined text) = joined_kept P T s text b in
+      gives (λ n.
+      let count : ℕ = length (read_notes parts (joined text) line n) in
+      let white = with_attr_has T XmlSpace (TextValue (codes "preserve")) (counting count) tt (counting_has T count) in
+      let own = body_has read _ h (cond_both literal _ (counting count) (AttrsHave T) (λ e. white) (λ e. counting_has T count)) in
+      let heading = open_fits T read.kind.element _ line 3 (k + 2) (read_nodes parts (joined text) line n) h.0 own (read_fit P T s parts _ _ n kept) (omega arith) in
+      (heading, read_notes_fit P T s (k + 2) (omega arith) parts _ _ n kept))
 
   titled_fits : (tag t : Tag) (a : List Attr) (line : ℕ) (heading : Node) (more : List Node) → Open t → AttrsHave T a → AllFit T (k + 1) more → Fits T (k + 2) (filled (titled_element tag (Element t a bare line) heading) more)
   titled_fits Admonition t a line heading more any own h = open_fits T t _ line (k + 1) (k + 2) more any (cond_both (is_some (value_of Classes a)) a (with_attr Classes (title_class heading) a) (AttrsHave T) (λ e. own) (λ e. with_attr_has T Classes _ a tt own)) h (omega arith)
@@ -128,22 +162,29 @@ module _ (P : ℕ → Bool) (T : List ℕ → Type 0) (s : Suited P T) (c : With
   content_fit : (B : Block) (content : Content) → BlockKept P B → Gives (AllFit T k) (content_nodes c B content)
   content_fit B content b = after (inside _ (lines_kept P B content.first b)) (λ nodes low. after (inside _ (lines_kept P B content.second b)) (λ more rest. give (all_append _ nodes more low rest)))
 
-  right_fits : (a : ArgumentMeaning) (kind : ContentKind) (B : Block) (line : ℕ) (read : Read) (lines : List ℕ) → BlockKept P B → ReadHas P T s read → T lines → Gives (AllFit T (k + 2)) (right_by a kind c B line read lines)
-  right_fits nothing Lines B line read lines b h l = code_fits B line read None b h
-  right_fits nothing _ B line read lines b h l =
-      after (content_fit B read.content b) (λ nodes low. give_one (open_fits T read.kind.element _ line k (k + 2) nodes h.0 (chosen_has _ (elim [ Name ↦ λ m h. h | _ ↦ λ m h. tt ]) read.options [] h.1 tt) low (omega arith)))
-  right_fits (title part) kind B line read lines b h l =
+  opened_fits : (a : ArgumentMeaning) (B : Block) (line : ℕ) (read : Read) (lines : List ℕ) → BlockKept P B → ReadHas P T s read → T lines → Gives (AllFit T (k + 2)) (opened_by a c B line read lines)
+  opened_fits (title part) B line read lines b h l =
       let text : Block = lines_in B part in let kept : Kept P (joined text) = joined_kept P T s text (lines_kept P B part b) in
       gives (λ n. (after (content_fit B read.content b) (λ nodes low.
-      let heading = open_fits T TitleTag (counting _) line 3 (k + 1) (read_nodes (joined text) (number_or line text) n) (λ c. refl) (counting_has T _) (read_fit P T s _ _ n kept) (omega arith) in
-      let more = all_append _ (read_notes (joined text) (number_or line text) n) nodes (read_notes_fit P T s (k + 1) (omega arith) _ _ n kept) (fit_more T k (k + 1) nodes (omega arith) low) in
-      give_one (titled_fits read.kind.element read.kind.element _ line _ _ h.0 (chosen_has _ (elim [ Name ↦ λ m h. h | _ ↦ λ m h. tt ]) read.options [] h.1 tt) (heading, more)))).at _)
-  right_fits (uri address) Caption B line read lines b h l =
+      let heading = open_fits T TitleTag (counting _) line 3 (k + 1) (read_nodes (first_parts text) (joined text) (number_or line text) n) (λ c. refl) (counting_has T _) (read_fit P T s (first_parts text) _ _ n kept) (omega arith) in
+      let more = all_append _ (read_notes (first_parts text) (joined text) (number_or line text) n) nodes (read_notes_fit P T s (k + 1) (omega arith) (first_parts text) _ _ n kept) (fit_more T k (k + 1) nodes (omega arith) low) in
+      give_one (titled_fits read.kind.element read.kind.element _ line _ _ h.0 (given_has read.argument _ (body_has read [] h tt)) (heading, more)))).at _)
+  opened_fits (uri address) B line read lines b h l =
       let image = image_fits (encode_utf8_all address) read.options line true None h.1 (tt, tt) in
       after (content_fit B read.content b) (λ nodes low. give (figure_fit _ _ nodes (λ c. refl) (open_fits T FigureTag _ line 2 (k + 2) (_ ∷ []) (λ c. refl) (chosen_has _ (elim [ Name ↦ λ m h. tt | _ ↦ λ m h. tt ]) read.options [] h.1 tt) (image.0, tt) (omega arith))
       (message_fits T (k + 2) (omega arith) Error line _ (Some lines) (fixed_has P T s _ refl) l) low))
-  right_fits (uri address) _ B line read lines b h l = let image = image_fits (encode_utf8_all address) read.options line false None h.1 (tt, tt) in give_one (omega (arith, image.0.0), image.0.1)
-  right_fits (language word) _ B line read lines b h l = code_fits B line read (Some (encode_utf8_all word)) b h
+  opened_fits _ B line read lines b h l =
+      after (content_fit B read.content b) (λ nodes low. give_one (open_fits T read.kind.element _ line k (k + 2) nodes h.0 (given_has read.argument _ (body_has read [] h tt)) low (omega arith)))
+
+  closed_one : (given : ArgumentMeaning) (B : Block) (line : ℕ) (read : Read) → BlockKept P B → ReadHas P T s read → Gives (AllFit T (k + 2)) (just (element_by given None B line read ∷ []))
+  closed_one given B line read b h = let own = element_fits given None B line read tt b h in give_one (omega (arith, own.0.0), own.0.1)
+
+  closed_fits : (a : ArgumentMeaning) (B : Block) (line : ℕ) (read : Read) → BlockKept P B → ReadHas P T s read → Gives (AllFit T (k + 2)) (closed_by a B line read)
+  closed_fits (title part) B line read b h = marked_fits (first_parts B) false line read _ (lines_kept P B part b) h
+  closed_fits a B line read b h = closed_one a B line read b h
+
+  right_fits : (B : Block) (line : ℕ) (read : Read) (lines : List ℕ) → BlockKept P B → ReadHas P T s read → T lines → Gives (AllFit T (k + 2)) (right_nodes c B line read lines)
+  right_fits B line read lines b h l = cond_both (has_blocks read.kind.content) _ _ (Gives (AllFit T (k + 2))) (λ e. opened_fits read.argument B line read lines b h l) (λ e. cond_both (is_marked read.kind.content) _ _ (Gives (AllFit T (k + 2))) (λ e. marked_fits (first_parts B) true line read _ (content_kept B read.content b) h) (λ e. closed_fits read.argument B line read b h))
 
   shown_fits : (level : Level) (B : Block) (g : Span) (text : List ℕ) → BlockKept P B → T text → Gives (AllFit T (k + 2)) (just (message_with_lines level (first_number (drop g.start B)) text (span_source B g) ∷ []))
   shown_fits level B g text b h = give_one (message_fits T (k + 2) (omega arith) level (first_number (drop g.start B)) text (Some (span_source B g)) h (source_has P T s B g b))
@@ -151,19 +192,21 @@ module _ (P : ℕ → Bool) (T : List ℕ → Type 0) (s : Suited P T) (c : With
   pub directive_fits : (B : Block) (g : Span) (call : Invocation) → BlockKept P B → Gives (AllFit T (k + 2)) (directive_nodes c B g call)
   directive_fits B g call b =
       called_has P T s c B g.start call _ b (λ o. Gives (AllFit T (k + 2)) (directive_by o c B g (excerpt (first_text (drop g.start B)) call.name)))
-      (λ read h. right_fits read.argument read.kind.content B (first_number (drop g.start B)) read (span_source B g) b h (source_has P T s B g b))
-      (λ fault part h. shown_fits Error B g _ b (fault_has fault _ h (excerpt_has P T s (first_text (drop g.start B)) call.name (first_kept P (drop g.start B) (all_drop _ g.start B b)))))
+      (λ read h. right_fits B (first_number (drop g.start B)) read (span_source B g) b h (source_has P T s B g b))
+      (λ fault part h. shown_fits (fault_level fault) B g _ b (fault_has fault _ h (excerpt_has P T s (first_text (drop g.start B)) call.name (first_kept P (drop g.start B) (all_drop _ g.start B b)))))
 
   -- ---- substitution definitions
 
-  definition_fit : (a : ArgumentMeaning) (B : Block) (line : ℕ) (name : List ℕ) (read : Read) (lines : List ℕ) → BlockKept P B → ReadHas P T s read → T name → T lines → Gives (AllFit T (k + 2)) (definition_by a c B line name read lines)
-  definition_fit (uri address) B line name read lines b h n l =
-      let image = image_fits (encode_utf8_all address) read.options line false (Some name) h.1 (tt, (tt, tt)) in let held = fit_forest T 2 (_ ∷ []) (image.0, tt) in
-      give_one (light_at SubstitutionDefinition _ (k + 2) (le-leb _ 2 image.1) (omega (arith, held.0)), ((n, tt), held.1))
-  definition_fit _ B line name read lines b h n l =
-      after (content_fit B read.content b) (λ nodes low. let own = first_fit nodes low in give_one (cond_both (may_replace (first_paragraph nodes)) _ _ (Fits T (k + 2))
+  held_fit : (name : List ℕ) (line : ℕ) (held : Node) → T name → ImageFits held → Gives (AllFit T (k + 2)) (just (filled (substitution_definition_node name line) (held ∷ []) ∷ []))
+  held_fit name line held n image =
+      let own = fit_forest T 2 (held ∷ []) (image.0, tt) in give_one (light_at SubstitutionDefinition _ (k + 2) (le-leb _ 2 image.1) (omega (arith, own.0)), ((n, tt), own.1))
+
+  definition_fit : (B : Block) (line : ℕ) (name : List ℕ) (read : Read) (lines : List ℕ) → BlockKept P B → ReadHas P T s read → T name → T lines → Gives (AllFit T (k + 2)) (definition_nodes c B line name read lines)
+  definition_fit B line name read lines b h n l = cond_both (has_blocks read.kind.content) _ _ (Gives (AllFit T (k + 2)))
+      (λ e. after (content_fit B read.content b) (λ nodes low. let own = first_fit nodes low in give_one (cond_both (may_replace (first_paragraph nodes)) _ _ (Fits T (k + 2))
       (λ e. (omega (arith, definition_fits T k (first_paragraph nodes) own e), ((n, tt), (fit_forest T k (first_paragraph nodes) own).1)))
-      (λ e. message_fits T (k + 2) (omega arith) Error line _ (Some lines) (s.append _ _ (quoted_has P T s (codes "Substitution definition \"") name (codes "\"") refl refl n) (fixed_has P T s _ refl)) l)))
+      (λ e. message_fits T (k + 2) (omega arith) Error line _ (Some lines) (s.append _ _ (quoted_has P T s (codes "Substitution definition \"") name (codes "\"") refl refl n) (fixed_has P T s _ refl)) l))))
+      (λ e. held_fit name line _ n (element_fits read.argument (Some name) B line read n b h))
 
   normalized_has : (t : List ℕ) → T t → T (normalized (unescaped t))
   normalized_has t h = s.encoded _ (normalized_kept P T s _ (s.decoded (unescaped t) (s.encoded _ (unescaped_kept P (chars t) (s.decoded t h)))))
@@ -173,5 +216,5 @@ module _ (P : ℕ → Bool) (T : List ℕ → Type 0) (s : Suited P T) (c : With
   substitution_fits B g written (Some call) b n =
       let name : List ℕ = normalized (unescaped written) in
       called_has P T s c B g.start call Substitution b (λ o. Gives (AllFit T (k + 2)) (definition_or_error o c B g name (excerpt (first_text (drop g.start B)) call.name)))
-      (λ read h. definition_fit read.argument B (first_number (drop g.start B)) name read (span_source B g) b h (normalized_has written n) (source_has P T s B g b))
-      (λ fault part h. shown_fits Error B g _ b (fault_has fault _ h (elim fault as (λ f. T (faulty_name f name (excerpt (first_text (drop g.start B)) call.name))) [ not_in_substitution ↦ normalized_has written n | _ ↦ excerpt_has P T s (first_text (drop g.start B)) call.name (first_kept P (drop g.start B) (all_drop _ g.start B b)) ])))
+      (λ read h. definition_fit B (first_number (drop g.start B)) name read (span_source B g) b h (normalized_has written n) (source_has P T s B g b))
+      (λ fault part h. shown_fits (fault_level fault) B g _ b (fault_has fault _ h (elim fault as (λ f. T (faulty_name f name (excerpt (first_text (drop g.start B)) call.name))) [ not_in_substitution ↦ normalized_has written n | _ ↦ excerpt_has P T s (first_text (drop g.start B)) call.name (first_kept P (drop g.start B) (all_drop _ g.start B b)) ])))

@@ -13,7 +13,7 @@ use Rattle.rst_markup_lines.specs.TextStart.{begins_with}
 use Rattle.rst_markup_directives.specs.Characters.{unindented}
 use Rattle.rst_markup_directives.specs.declared.kind.OptionSet.{OptionSet}
 use Rattle.rst_markup_directives.specs.declared.option.OptionName.{OptionName}
-use Rattle.rst_markup_directives.specs.declared.option.OptionName.TheVariants.{Alt, Target, Name}
+use Rattle.rst_markup_directives.specs.declared.option.OptionName.TheVariants.{Alt, Target, Name, Inclusion}
 use Rattle.rst_markup_directives.specs.Lines.{joined_nonempty}
 use Rattle.rst_markup_directives.specs.Message.{wrong_text}
 use Rattle.rst_markup_directives.specs.OptionName.{option_named}
@@ -41,7 +41,7 @@ module _ (P : ℕ → Bool) (T : List ℕ → Type 0) (s : Suited P T) where
   pub quoted_has : (before t after : List ℕ) → list_all is_fixed before ≡ true → list_all is_fixed after ≡ true → T t → T (before ++ t ++ after)
   quoted_has before t after e f h = s.append (before ++ t) after (s.append before t (fixed_has P T s before e) h) (fixed_has P T s after f)
 
-  nonempty_kept : (ts : List Text) → AllByRecursion (Kept P) ts → Kept P (joined_nonempty ts)
+  pub nonempty_kept : (ts : List Text) → AllByRecursion (Kept P) ts → Kept P (joined_nonempty ts)
   unfolding joined_nonempty
   nonempty_kept ts h = join_kept P 10 _ (s.fixed 10 refl) (all_filter (Kept P) _ ts h)
 
@@ -111,6 +111,7 @@ module _ (P : ℕ → Bool) (T : List ℕ → Type 0) (s : Suited P T) where
       target_has (λ o. IfSome (option_map (λ (m : Meaning). (Target, m)) (option_map (λ to. linked to t) o)) ChoiceHas) t h tt
       (λ name k. (tt, (tt, (s.encoded t h, (s.encoded _ (name_kept P T s name k), tt))))) (λ uri. (tt, (s.encoded t h, (tt, tt))))
   setting_has options (Some Alt) t h = (tt, tt)
+  setting_has options (Some Inclusion) t h = (tt, tt)
   setting_has options (Some _) t h = paired _ _ _ (λ a. (tt, tt))
 
   choices_have : (options : OptionSet) (fs : List FieldText) → AllByRecursion FieldKept fs → Judged (AllByRecursion ChoiceHas) (choices_of options fs)

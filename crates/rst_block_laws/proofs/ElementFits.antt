@@ -3,6 +3,7 @@ use Rattle.std.proofs.Common.{ℕ, ◌≤◌, Bool, List, [], ◌∷◌, drop, l
 use Rattle.std.specs.Option.{IfSome, option_map}
 use Rattle.std.specs.Str.{chars}
 use Rattle.std.proofs.lemmas.Bool.{cond_both}
+use Rattle.rst_settings.specs.declared.Parts.{Parts}
 use Rattle.rst_text.specs.Block.{is_blank}
 use Rattle.rst_tree.specs.declared.tag.Tag.{Tag}
 use Rattle.rst_tree.specs.declared.tag.Tag.TheVariants.{OptionGroup}
@@ -27,11 +28,11 @@ use Rattle.rst_block_laws.proofs.Weights.{HoldsAny, Open, light_at}
 module _ (P : ℕ → Bool) (T : List ℕ → Type 0) (s : Suited P T) where
   -- ---- texts with markup
 
-  pub read_fit : (t : List ℕ) (line first : ℕ) → Kept P t → AllFit T 3 (read_nodes t line first)
-  read_fit t line first h = text_fits P T s t line first (pieces_of t) h
+  pub read_fit : (parts : Parts) (t : List ℕ) (line first : ℕ) → Kept P t → AllFit T 3 (read_nodes parts t line first)
+  read_fit parts t line first h = text_fits P T s parts t line first (pieces_of parts.mail t) h
 
-  pub texted_fits : (tag : Tag) (line : ℕ) (t : List ℕ) (text_line first : ℕ) → Open tag → Kept P t → Fits T 4 (texted_node tag line t text_line first)
-  texted_fits tag line t text_line first any h = open_fits T tag _ line 3 4 _ any (counting_has T (length (read_notes t text_line first))) (read_fit t text_line first h) (omega arith)
+  pub texted_fits : (parts : Parts) (tag : Tag) (line : ℕ) (t : List ℕ) (text_line first : ℕ) → Open tag → Kept P t → Fits T 4 (texted_node parts tag line t text_line first)
+  texted_fits parts tag line t text_line first any h = open_fits T tag _ line 3 4 _ any (counting_has T (length (read_notes parts t text_line first))) (read_fit parts t text_line first h) (omega arith)
 
   -- ---- texts without markup
 

@@ -3,6 +3,7 @@ use Rattle.std.proofs.Common.{ℕ, Bool, zero, suc, ◌+◌, ◌≤◌, List, []
 use Rattle.std.specs.Prelude.{nat_lt}
 use Rattle.std.specs.List.{AllByRecursion}
 use Rattle.std.proofs.lemmas.Bool.{cond_both}
+use Rattle.rst_settings.specs.declared.Parts.{Parts}
 use Rattle.rst_text.specs.Block.{Block}
 use Rattle.rst_tree.specs.declared.node.Node.{Node}
 use Rattle.rst_tree.specs.declared.tag.Tag.{Tag}
@@ -29,9 +30,9 @@ module _ (P : ℕ → Bool) (T : List ℕ → Type 0) (s : Suited P T) where
   abbrev pub PairFits : ℕ → ℕ → Node × List Node → Type 0
   PairFits j k made = Fits T j made.0 × AllFit T k made.1
 
-  pub texted_fit : (j k : ℕ) → 4 ≤ j → 3 ≤ k → (tag : Tag) (line : ℕ) (t : List ℕ) (text_line first : ℕ) → Open tag → Kept P t
-      → PairFits j k (texted_node tag line t text_line first, read_notes t text_line first)
-  texted_fit j k e f tag line t text_line first any h = let own = texted_fits P T s tag line t text_line first any h in ((omega (arith, own.0), own.1), read_notes_fit P T s k f t text_line first h)
+  pub texted_fit : (parts : Parts) (j k : ℕ) → 4 ≤ j → 3 ≤ k → (tag : Tag) (line : ℕ) (t : List ℕ) (text_line first : ℕ) → Open tag → Kept P t
+      → PairFits j k (texted_node parts tag line t text_line first, read_notes parts t text_line first)
+  texted_fit parts j k e f tag line t text_line first any h = let own = texted_fits P T s parts tag line t text_line first any h in ((omega (arith, own.0), own.1), read_notes_fit P T s k f parts t text_line first h)
 
   -- ---- the lines of a run
 
@@ -77,7 +78,7 @@ module _ (P : ℕ → Bool) (T : List ℕ → Type 0) (s : Suited P T) where
       give (lines, all_flat (PairFits (l + 4) 3) (Fits T 3) _ (λ m k. k.1) made own))
     where
       part_fits : ((ls : List IndentedLine) → LinesKept ls → Gives (PairFits (l + 4) 3) (line_block l ls)) → (p : LinePart) → PartKept p → Gives (PairFits (l + 4) 3) (part_node (line_block l) p)
-      part_fits inner (level_line m) k = gives (λ n. texted_fit (l + 4) 3 (omega arith) (omega arith) Line m.line m.text m.text_line n (λ c. refl) k)
+      part_fits inner (level_line m) k = gives (λ n. texted_fit m.parts (l + 4) 3 (omega arith) (omega arith) Line m.line m.text m.text_line n (λ c. refl) k)
       part_fits inner (deeper_lines ms) k = inner ms k
 
   pub line_nodes_fit : (c : Within) (B : Block) (fs : List Found) → BlockKept P B → Gives (AllFit T (c.levels + 4)) (line_nodes c B fs)

@@ -4,6 +4,7 @@ use Rattle.std.specs.Prelude.{◌≡◌, ◌==◌, codes}
 use Rattle.std.specs.List.{list_all}
 use Rattle.std.specs.Option.{IfSome, option_to_list}
 use Rattle.std.proofs.lemmas.Bool.{cond_both}
+use Rattle.rst_settings.specs.declared.Parts.{Parts}
 use Rattle.rst_text.specs.Block.{Block, first_number, first_text, is_blank}
 use Rattle.rst_text.specs.Extent.{extent}
 use Rattle.rst_tree.specs.declared.attrs.Value.TheVariants.{Number}
@@ -47,8 +48,8 @@ use Rattle.rst_block_laws.proofs.ElementFits.{preserved_fits}
 
 -- where they may have so many levels
 module _ (P : ℕ → Bool) (T : List ℕ → Type 0) (s : Suited P T) (j : ℕ) (some : 3 ≤ j) where
-  pub read_notes_fit : (t : List ℕ) (line first : ℕ) → Kept P t → AllFit T j (read_notes t line first)
-  read_notes_fit t line first h = by first (notes_of t line (pieces_of t)) (notes_have P T s t line (pieces_of t) h)
+  pub read_notes_fit : (parts : Parts) (t : List ℕ) (line first : ℕ) → Kept P t → AllFit T j (read_notes parts t line first)
+  read_notes_fit parts t line first h = by first (notes_of parts t line (pieces_of parts.mail t)) (notes_have P T s parts t line (pieces_of parts.mail t) h)
     where
       by : (first : ℕ) (notes : List Note) → NotesHave T notes → AllFit T j (messages_from first notes)
       by first [] h = tt

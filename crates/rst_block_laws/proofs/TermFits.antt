@@ -4,6 +4,7 @@ use Rattle.std.specs.Prelude.{◌&&◌}
 use Rattle.std.specs.List.{AllByRecursion}
 use Rattle.std.specs.Option.{IfSome}
 use Rattle.std.proofs.lemmas.Bool.{cond_both}
+use Rattle.rst_settings.specs.declared.Parts.{Parts}
 use Rattle.rst_text.specs.Characters.{is_white}
 use Rattle.rst_text.specs.Escapes.{escapes}
 use Rattle.rst_tree.specs.declared.node.Node.{Node}
@@ -89,6 +90,6 @@ module _ (P : ℕ → Bool) (T : List ℕ → Type 0) (s : Suited P T) where
   heads_fit notes line [] h = tt
   heads_fit notes line (g ∷ gs) h = (open_fits T Term _ line 3 4 g (λ c. refl) (counting_has T notes) h.0 (omega arith), classifiers_fit line gs h.1)
 
-  pub terms_fit : (t : List ℕ) (line first : ℕ) → Kept P t → AllFit T 4 (term_nodes t line first)
-  terms_fit t line first h =
-      heads_fit (length (read_notes t line first)) line _ (groups_fit _ (parts_fit (parts_of_pieces t (pieces_of t)) (read_nodes t line first) (pieces_fit t (pieces_of t) h) (read_fit P T s t line first h)))
+  pub terms_fit : (parts : Parts) (t : List ℕ) (line first : ℕ) → Kept P t → AllFit T 4 (term_nodes parts t line first)
+  terms_fit parts t line first h =
+      heads_fit (length (read_notes parts t line first)) line _ (groups_fit _ (parts_fit (parts_of_pieces t (pieces_of parts.mail t)) (read_nodes parts t line first) (pieces_fit t (pieces_of parts.mail t) h) (read_fit P T s parts t line first h)))

@@ -2,7 +2,8 @@
 use Rattle.std.proofs.Common.{◌≡◌, ℕ, ◌≤◌, Bool, true, false, List, [], ◌∷◌, drop, map, Some, arith, refl}
 use Rattle.std.specs.Prelude.{codes, unwrap_or}
 use Rattle.std.specs.Option.{option_to_list}
-use Rattle.rst_text.specs.Block.{Block, first_number, first_text}
+use Rattle.rst_settings.specs.declared.Parts.{Parts}
+use Rattle.rst_text.specs.Block.{Block, first_number, first_text, first_parts}
 use Rattle.rst_tree.specs.declared.node.Node.{Node}
 use Rattle.rst_tree.specs.declared.note.Level.TheVariants.{Severe}
 use Rattle.rst_tree.specs.declared.tag.Tag.TheVariants.{Title as TitleTag}
@@ -36,16 +37,16 @@ module _ (T : List ℕ → Type 0) where
   among_fit j (titled t ∷ items) h = among_fit j items h.1
 
   module _ (P : ℕ → Bool) (s : Suited P T) (j : ℕ) (some : 4 ≤ j) where
-    pub title_fits : (style : Style) (text : List ℕ) (line : ℕ) (short : Bool) (below : ℕ) (warning lines : List ℕ) → is_punctuation style.character ≡ true → Kept P text → T warning → T lines
-        → Gives (ItemsFit T j) (title_item style text line (short_warning short below warning lines) lines)
-    title_fits style text line short below warning lines h k w l =
+    pub title_fits : (parts : Parts) (style : Style) (text : List ℕ) (line : ℕ) (short : Bool) (below : ℕ) (warning lines : List ℕ) → is_punctuation style.character ≡ true → Kept P text → T warning → T lines
+        → Gives (ItemsFit T j) (title_item parts style text line (short_warning short below warning lines) lines)
+    title_fits parts style text line short below warning lines h k w l =
         gives (λ n.
-        let own = texted_fit P T s j j some (omega arith) TitleTag line text line n (λ c. refl) k in
+        let own = texted_fit P T s parts j j some (omega arith) TitleTag line text line n (λ c. refl) k in
         ((h, own.0, all_append _ _ (option_to_list (short_warning short below warning lines)) own.1 (warning_fit P T s j (omega arith) short below warning lines w l), l), tt))
 
     pub underline_fits : (titles short : Bool) (lines : List ℕ) (X : Block) → is_punctuation (unwrap_or (first (next_text X)) 32) ≡ true → BlockKept P X → T lines
         → Gives (ItemsFit T j) (underline_item titles short lines X)
-    underline_fits true short lines X h k l = title_fits _ (first_text X) (first_number X) short (first_number (drop 1 X)) _ lines h (first_kept P X k) (fixed_has P T s _ refl) l
+    underline_fits true short lines X h k l = title_fits (first_parts X) _ (first_text X) (first_number X) short (first_number (drop 1 X)) _ lines h (first_kept P X k) (fixed_has P T s _ refl) l
     underline_fits false short lines X h k l =
         give (plain_fit j j _ (omega arith) (all_append _ (option_to_list (underline_warning short lines X)) (_ ∷ []) (warning_fit P T s j (omega arith) short _ _ lines (fixed_has P T s _ refl) l)
         (message_fits T j (omega arith) Severe (first_number (drop 1 X)) (codes "Unexpected section title.") (Some lines) (fixed_has P T s _ refl) l, tt)))

@@ -1,17 +1,18 @@
 -- How many levels nodes have, where an element that breaks the rule on replacement texts counts as more levels than a tree may have.
-use Rattle.std.proofs.Common.{◌≡◌, ℕ, ◌+◌, ◌≤◌, max, Bool, true, false, List, [], arith, refl, subst}
+use Rattle.std.proofs.Common.{◌≡◌, ℕ, ◌+◌, ◌≤◌, max, Bool, true, false, List, [], arith, refl, sym, ap, subst}
 use Rattle.std.specs.Prelude.{if◌then◌else◌, nat_le}
 use Rattle.std.proofs.lemmas.Bool.{and_parts, cond_both}
 use Rattle.rst_tree.specs.declared.attrs.Attr.{Attr}
 use Rattle.rst_tree.specs.declared.node.Node.{Node}
 use Rattle.rst_tree.specs.declared.node.Node.TheVariants.{Element, Text}
 use Rattle.rst_tree.specs.declared.tag.Tag.{Tag}
-use Rattle.rst_tree.specs.declared.tag.Tag.TheVariants.{Reference, SubstitutionDefinition}
+use Rattle.rst_tree.specs.declared.tag.Tag.TheVariants.{Reference, SubstitutionDefinition, SubstitutionReference}
 use Rattle.rst_tree.specs.Forest.{Forest, bare, element, words, height}
 use Rattle.rst_tree.specs.Nodes.{children_in, node_height}
 use Rattle.rst_tree.specs.Tree.{most_levels}
 use Rattle.rst_block_nodes.specs.Targets.{may_stand_as}
 use Rattle.rst_tree_index.specs.Parsed.{levels_by, AreFlat}
+use Rattle.rst_tree_index.specs.Kinds.{is_substitution_reference}
 use borrow.Author.Tests.{leb-true, le-leb}
 
 -- ---- what they are
@@ -47,6 +48,14 @@ Open t = (c : Forest) → is_flat t c ≡ true
 abbrev pub HoldsAny : Node → Type 0
 HoldsAny (Element t a c l) = Open t
 HoldsAny (Text t) = Unit {0}
+
+-- a substitution reference may not
+pub open_plain : (t : Tag) → Open t → is_substitution_reference t ≡ false
+open_plain SubstitutionReference h = sym (h (element SubstitutionReference [] bare 0 bare))
+open_plain _ h = refl
+
+pub open_counts : (t : Tag) (n : ℕ) → Open t → (if is_substitution_reference t then n else 0) ≡ 0
+open_counts t n h = ap (λ b. if b then n else 0) (open_plain t h)
 
 -- ---- elements
 

@@ -1,5 +1,6 @@
 //! Laws on the trees of blocks, each by a function that does nothing and whose contract is the law: first on levels, then on texts, then on both.
 ghost use Rattle.std.specs.Prelude.{ℕ, ◌+◌, ◌*◌, ◌≤◌, Bool, List, IfOk};
+ghost use Rattle.rst_settings.specs.declared.Parts.{Parts};
 ghost use Rattle.rst_settings.specs.Profile.{Profile};
 ghost use Rattle.rst_text.specs.Characters.{Text};
 ghost use Rattle.rst_text.specs.Block.{Block};
@@ -14,7 +15,7 @@ ghost use Rattle.rst_block_state.specs.Documents.{document};
 
 /// The nodes of a text have at most three levels.
 pub fn texts_are_low()
-    ensures { (t : Text) (line number : ℕ) (pieces : List Piece) → Low 3 (nodes_from t line number pieces) }
+    ensures { (parts : Parts) (t : Text) (line number : ℕ) (pieces : List Piece) → Low 3 (nodes_from parts t line number pieces) }
 {}
 
 /// The nodes of a block have at most five levels for each level of blocks that is left, and one more.
@@ -36,8 +37,8 @@ pub fn replacements_are_flat()
 /// The texts in the nodes and messages of a text, and the values that become texts, consist of its characters, of those that these fold to, and of
 /// fixed ones.
 pub fn texts_stay()
-    ensures nodes { (P : ℕ → Bool) (t : Text) (line number : ℕ) (pieces : List Piece) → Suits P → Kept P t → NodesHave (Spells P) (nodes_from t line number pieces) }
-    ensures notes { (P : ℕ → Bool) (t : Text) (line : ℕ) (pieces : List Piece) → Suits P → Kept P t → NotesHave (Spells P) (notes_of t line pieces) }
+    ensures nodes { (P : ℕ → Bool) (parts : Parts) (t : Text) (line number : ℕ) (pieces : List Piece) → Suits P → Kept P t → NodesHave (Spells P) (nodes_from parts t line number pieces) }
+    ensures notes { (P : ℕ → Bool) (parts : Parts) (t : Text) (line : ℕ) (pieces : List Piece) → Suits P → Kept P t → NotesHave (Spells P) (notes_of parts t line pieces) }
 {}
 
 /// The texts of blocks and of a document consist of characters of their lines, of those that these fold to, and of fixed ones.

@@ -1,6 +1,7 @@
 -- The content of a directive as blocks: the lines before its options and those after them are in its block, and begin with a line that isn't blank.
-use Rattle.std.proofs.Common.{◌≡◌, ℕ, ◌+◌, ◌-◌, ◌≤◌, ◌==◌, Bool, true, false, not, ◌&&◌, cond, List, [], ◌∷◌, length, take, drop, length-drop, length-take, Option, None, Some, option_map, Result, Ok, Err, arith, sym, ap, ◌∙◌, subst}
-use Rattle.std.proofs.lemmas.List.{drop-drop, length-map}
+use Rattle.std.proofs.Common.{◌≡◌, ℕ, ◌+◌, ◌-◌, ◌≤◌, ◌==◌, Bool, true, false, not, cond, List, [], ◌∷◌, length, take, drop, length-drop, Option, None, Some, Result, Ok, Err, arith, sym, ap, ◌∙◌, subst}
+use Rattle.std.proofs.lemmas.Bool.{cond_both}
+use Rattle.std.proofs.lemmas.List.{drop-drop}
 use Rattle.std.proofs.lemmas.List.Sums.{prefix_len-le-length}
 use Rattle.rst_markup_directives.proofs.DirectiveParts.{run_in-le}
 use Rattle.rst_settings.specs.declared.Parts.{Parts}
@@ -10,27 +11,26 @@ use Rattle.rst_markup_blocks.proofs.RowLaws.{while_le}
 use Rattle.rst_markup_blocks.specs.declared.forms.Invocation.{Invocation}
 use Rattle.rst_markup_blocks.specs.declared.lines.LineTest.TheVariants.{Blank}
 use Rattle.rst_markup_blocks.specs.declared.part.Part.{Part}
-use Rattle.rst_markup_directives.specs.Argument.{ArgumentMeaning, uri, argument_of}
-use Rattle.rst_markup_directives.specs.Call.{called_at, part_of, content_of, is_empty}
+use Rattle.rst_markup_directives.specs.Argument.{ArgumentMeaning, argument_of}
+use Rattle.rst_markup_directives.specs.Call.{called_at, part_of, content_of}
 use Rattle.rst_markup_directives.specs.Characters.{Text}
-use Rattle.rst_markup_directives.specs.Directive.{Read, Outcome, found, wrong, run_in, directive_options, read_parts, directive_by_layout, read_block, read_at, directive_outcome_at, of_block, judged_directive, named_directive, source_lines_at, is_late, directive_of}
-use Rattle.rst_markup_directives.specs.Judgement.{content_fault}
+use Rattle.rst_markup_directives.specs.Directive.{Read, Outcome, found, wrong, run_in, directive_options, read_parts, directive_by_layout, read_block, read_at, directive_outcome_at, fault_of, of_block, judged_directive, named_directive, source_lines_at, is_late, directive_of}
+use Rattle.rst_markup_directives.specs.Kind.{has_blocks}
 use Rattle.rst_markup_directives.specs.Layout.{begins_field, before_field, content_alone, parts_without_argument, layout_by, layout_at, layout_of}
-use Rattle.rst_markup_directives.specs.Lines.{first_run, blank_len, after_blank}
+use Rattle.rst_markup_directives.specs.Lines.{blank_len, after_blank}
 use Rattle.rst_markup_directives.specs.Options.{OptionSetting}
-use Rattle.rst_markup_directives.specs.Wrong.{Wrong, Fault, and_then, unless, fault_in}
-use Rattle.rst_markup_directives.specs.declared.fault.DirectiveFault.{DirectiveFault}
+use Rattle.rst_markup_directives.specs.Wrong.{Wrong, Fault, and_then, unless}
 use Rattle.rst_markup_directives.specs.declared.found.Content.{Content}
 use Rattle.rst_markup_directives.specs.declared.found.Place.{Place}
 use Rattle.rst_markup_directives.specs.declared.kind.ArgumentKind.{ArgumentKind}
 use Rattle.rst_markup_directives.specs.declared.kind.ArgumentKind.TheVariants.{Absent}
 use Rattle.rst_markup_directives.specs.declared.kind.ContentKind.{ContentKind}
-use Rattle.rst_markup_directives.specs.declared.kind.ContentKind.TheVariants.{Paragraph}
+use Rattle.rst_markup_directives.specs.declared.kind.ContentKind.TheVariants.{Paragraph, Marked}
 use Rattle.rst_markup_directives.specs.declared.kind.Kind.{Kind}
 use Rattle.rst_block_state.specs.looks.Budget.{sum_of}
 use Rattle.rst_block_state.specs.looks.BudgetLaws.{is_trimmed, IsFronted, HaveAtMostLines}
 use Rattle.rst_block_state.specs.Directives.{called}
-use Rattle.rst_block_state.specs.Inside.{content_blocks, has_blocks, directive_blocks, definition_content, definition_blocks}
+use Rattle.rst_block_state.specs.Inside.{content_blocks, directive_blocks}
 use Rattle.rst_block_state.specs.Paragraphs.{is_single_paragraph}
 use Rattle.rst_block_state.specs.Texts.{lines_in}
 use Rattle.rst_block_state.specs.Within.{Within}
@@ -66,15 +66,16 @@ without_laid : (parts : Parts) (run : List Text) (H : Block) → is_trimmed H �
 without_laid parts run H h r =
     chosen (λ layout. IsLaid layout.first layout.second H) (before_field parts run == length run) (content_alone run (length H)) _ (alone_laid H h) (rest_laid (before_field parts run) run H h (prefix_len-le-length (λ (t : Text). not (begins_field parts t)) run) r)
 
-parts_laid : (parts : Parts) (content : ContentKind) (argument : ArgumentKind) (run : List Text) (H : Block) → is_trimmed H ≡ true → length run ≤ length H
+parts_laid : (parts : Parts) (content : ContentKind) (argument : ArgumentKind) (run : List Text) (H : Block) → has_blocks content ≡ true → is_trimmed H ≡ true → length run ≤ length H
     → let layout = layout_by parts content argument run (length H) (after_blank H (length run)) in IsLaid layout.first layout.second H
-parts_laid parts Paragraph argument run H h r = alone_laid H h
-parts_laid parts _ Absent run H h r = without_laid parts run H h r
-parts_laid parts _ _ run H h r = rest_laid 0 run H h (omega arith) r
+parts_laid parts Paragraph argument run H b h r = alone_laid H h
+parts_laid parts Marked argument run H b h r = absurd (let no : false ≡ true = b in cc)
+parts_laid parts _ Absent run H b h r = without_laid parts run H h r
+parts_laid parts _ _ run H b h r = rest_laid 0 run H h (omega arith) r
 
-layout_laid : (kind : Kind) (run : List Text) (H : Block) → is_trimmed H ≡ true → length run ≤ length H → let layout = layout_of kind run H in IsLaid layout.first layout.second H
+layout_laid : (kind : Kind) (run : List Text) (H : Block) → has_blocks kind.content ≡ true → is_trimmed H ≡ true → length run ≤ length H → let layout = layout_of kind run H in IsLaid layout.first layout.second H
 unfolding layout_at
-layout_laid kind run H h r = parts_laid (first_parts H) kind.content kind.argument run H h r
+layout_laid kind run H b h r = parts_laid (first_parts H) kind.content kind.argument run H b h r
 
 -- ---- the content
 
@@ -100,15 +101,19 @@ content_in B block first second h count laid =
       fronted = (subst IsFronted (sym one) (take_fronted (first - 0) (drop 0 H) h), (subst IsFronted (sym two) (take_fronted (length H - second) (drop second H) laid.fronted), tt));
     }
 
+-- so are the blocks of a directive whose content is blocks
+abbrev HasBlocksIn : ℕ → Block → Read → Type 0
+HasBlocksIn n B read = has_blocks read.kind.content ≡ true → HaveAtMostLines n (content_blocks B read.content)
+
 abbrev MayBeIn : ℕ → Block → Result Read Wrong → Type 0
-MayBeIn n B (Ok read) = HaveAtMostLines n (content_blocks B read.content)
+MayBeIn n B (Ok read) = HasBlocksIn n B read
 MayBeIn n B (Err w) = Unit {0}
 
 abbrev IsIn : ℕ → Block → Outcome → Type 0
-IsIn n B (found read) = HaveAtMostLines n (content_blocks B read.content)
+IsIn n B (found read) = HasBlocksIn n B read
 IsIn n B (wrong fault source) = Unit {0}
 
-parts_in : (n : ℕ) (B : Block) (kind : Kind) (content : Content) (given : Result ArgumentMeaning Wrong) (choices : Result (List OptionSetting) Wrong) → HaveAtMostLines n (content_blocks B content) → MayBeIn n B (read_parts kind content given choices)
+parts_in : (n : ℕ) (B : Block) (kind : Kind) (content : Content) (given : Result ArgumentMeaning Wrong) (choices : Result (List OptionSetting) Wrong) → (has_blocks kind.content ≡ true → HaveAtMostLines n (content_blocks B content)) → MayBeIn n B (read_parts kind content given choices)
 parts_in n B kind content given (Err w) h = tt
 parts_in n B kind content (Err w) (Ok choices) h = tt
 parts_in n B kind content (Ok value) (Ok choices) h = h
@@ -121,13 +126,13 @@ block_in B kind late block h count =
     let run : List Text = run_in kind late H in
     let layout = layout_of kind run H in
     parts_in (length H) B kind (content_of block layout (length H)) (argument_of kind.argument (take layout.argument run) (part_of block 0 layout.argument)) (directive_options (first_parts H) kind.options (drop layout.options run))
-    (content_in B block layout.first layout.second h count (layout_laid kind run H h.trimmed (run_in-le kind late H)))
+    (λ b. content_in B block layout.first layout.second h count (layout_laid kind run H b h.trimmed (run_in-le kind late H)))
 
 judged_in : (n : ℕ) (B : Block) (place : Place) (paragraph : Bool) (source : Part) (read : Result Read Wrong) → MayBeIn n B read → IsIn n B (directive_outcome_at source (and_then (judged_directive place paragraph) (of_block read)))
 judged_in n B place paragraph source (Err w) h = tt
-judged_in n B place paragraph source (Ok read) h = by (content_fault read.kind (is_empty read.content) place paragraph)
+judged_in n B place paragraph source (Ok read) h = by (fault_of place paragraph read)
   where
-    by : (fault : Option DirectiveFault) → IsIn n B (directive_outcome_at source (unless (option_map fault_in fault) (Ok read)))
+    by : (fault : Option Fault) → IsIn n B (directive_outcome_at source (unless fault (Ok read)))
     by (Some fault) = tt
     by None = h
 
@@ -152,24 +157,11 @@ none_within n = record { few = omega arith; fronted = tt }
 pub more_within : (n m : ℕ) (Cs : List Block) → n ≤ m → HaveAtMostLines n Cs → HaveAtMostLines m Cs
 more_within n m Cs h w = record { few = omega (arith, h, w.few); fronted = w.fronted }
 
-definition_by : (n : ℕ) (B : Block) (given : ArgumentMeaning) (content : Content) → HaveAtMostLines n (content_blocks B content) → HaveAtMostLines n (definition_content given B content)
-definition_by n B (uri address) content h = none_within n
-definition_by n B _ content h = h
-
 directive_by : (n : ℕ) (B : Block) (o : Outcome) → IsIn n B o → HaveAtMostLines n (directive_blocks o B)
-directive_by n B (found read) h = chosen (HaveAtMostLines n) (has_blocks read.argument read.kind.content) (content_blocks B read.content) [] h (none_within n)
+directive_by n B (found read) h = cond_both (has_blocks read.kind.content) (content_blocks B read.content) [] (HaveAtMostLines n) h (λ _. none_within n)
 directive_by n B (wrong fault source) h = none_within n
 
-definition_blocks_within : (n : ℕ) (B : Block) (o : Outcome) → IsIn n B o → HaveAtMostLines n (definition_blocks o B)
-definition_blocks_within n B (found read) h = definition_by n B read.argument read.content h
-definition_blocks_within n B (wrong fault source) h = none_within n
-
--- those of a directive
+-- those of a directive, in a block or in a substitution definition
 pub directive_within : (c : Within) (B : Block) (i : ℕ) (call : Invocation) (place : Place) → IsFronted (lines_in B call.block) → length (lines_in B call.block) ≡ call.block.to - call.block.from
     → HaveAtMostLines (length (lines_in B call.block)) (directive_blocks (called c B i call place) B)
 directive_within c B i call place h count = directive_by (length (lines_in B call.block)) B (called c B i call place) (outcome_in c B i call place h count)
-
--- those of a directive that a substitution definition holds
-pub call_blocks_within : (c : Within) (B : Block) (i : ℕ) (call : Invocation) (place : Place) → IsFronted (lines_in B call.block) → length (lines_in B call.block) ≡ call.block.to - call.block.from
-    → HaveAtMostLines (length (lines_in B call.block)) (definition_blocks (called c B i call place) B)
-call_blocks_within c B i call place h count = definition_blocks_within (length (lines_in B call.block)) B (called c B i call place) (outcome_in c B i call place h count)

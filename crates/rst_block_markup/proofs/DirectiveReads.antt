@@ -1,78 +1,86 @@
 -- What a block gives once a directive in it is read.
-use Rattle.std.proofs.Common.{◌≡◌, ℕ, ◌≤◌, Result, arith, subst, true, false, List, [], ◌∷◌, Some, None, Ok, refl, sym, ◌∙◌, ap}
-use Rattle.std.specs.Prelude.{encode_utf8_all}
-use Rattle.std.specs.Str.{chars}
-use Rattle.rst_text.specs.Block.{Block}
+use Rattle.std.proofs.Common.{◌≡◌, ℕ, ◌+◌, ◌<◌, ◌≤◌, Bool, cond, drop, Result, arith, true, false, List, [], ◌∷◌, Some, None, Ok, refl, sym, ◌∙◌, ap}
+use Rattle.rst_settings.specs.declared.Parts.{Parts}
+use Rattle.rst_text.specs.Block.{Block, first_number, first_parts}
+use Rattle.rst_text.specs.Looked.{capped}
 use Rattle.rst_tree.specs.declared.node.Node.{Node}
 use Rattle.rst_tree.specs.declared.tag.Tag.TheVariants.{Title as TitleTag}
-use Rattle.rst_markup_directives.specs.Argument.{ArgumentMeaning, nothing, uri, given_in}
+use Rattle.rst_markup_blocks.specs.declared.part.Part.{Part}
+use Rattle.rst_markup_directives.specs.Argument.{ArgumentMeaning, nothing, given_in}
 use Rattle.rst_markup_directives.specs.Directive.{Read}
-use Rattle.rst_markup_directives.specs.Kind.{is_lines, is_caption}
+use Rattle.rst_markup_directives.specs.Kind.{has_blocks}
 use Rattle.rst_markup_directives.specs.Options.{choices_in}
 use Rattle.rst_markup_directives.specs.declared.argument.Argument.{Argument}
-use Rattle.rst_markup_directives.specs.declared.found.Content.{Content}
-use Rattle.rst_markup_directives.specs.declared.kind.ContentKind.{ContentKind}
-use Rattle.rst_markup_directives.specs.declared.kind.ContentKind.TheVariants.{Lines, Caption}
+use Rattle.rst_markup_directives.specs.declared.argument.Argument.TheVariants.{Title, Uri}
 use Rattle.rst_markup_directives.specs.declared.options.Setting.{Setting}
 use Rattle.rst_block_nodes.specs.Options.{directive_element, figure_element, image_element}
 use Rattle.rst_block_nodes.specs.Sections.{filled}
-use Rattle.rst_block_state.specs.Directives.{content_nodes, titled_element, titled_nodes, plain_nodes, figure_of, code_nodes, right_by}
+use Rattle.rst_block_state.specs.Directives.{closed_nodes, content_nodes, titled_element, titled_nodes, plain_nodes, figure_of, opened_by}
 use Rattle.rst_block_state.specs.Figures.{caption_error, figure_nodes}
-use Rattle.rst_block_state.specs.Inside.{content_blocks, directive_content}
+use Rattle.rst_block_state.specs.Inside.{content_blocks}
 use Rattle.rst_block_state.specs.LineRuns.{number_or}
-use Rattle.rst_block_markup.specs.MarkupSteps.{IsDirectiveRead, made_of_content, reads_with}
+use Rattle.rst_block_markup.specs.MarkupSteps.{IsDirectiveRead, IsOpenedRead, made_of_content, marked_text, read_of_directive, reads_with}
 use Rattle.rst_block_markup.specs.declared.directive.Found.{Found}
 use Rattle.rst_block_state.specs.machine.Meanings.{within_at, reads_from, comes}
-use Rattle.rst_block_state.specs.Numbered.{Numbered, then_read, just}
-use Rattle.rst_block_state.specs.machine.OpenBlocks.{IsMoved}
-use Rattle.rst_block_state.specs.Texts.{joined, texted}
+use Rattle.rst_block_state.specs.Numbered.{then_read, just}
+use Rattle.rst_block_state.specs.machine.OpenBlocks.{HasMoreAt, IsMoved}
+use Rattle.rst_block_state.specs.Texts.{joined, span_source, texted}
 use Rattle.rst_block_state.specs.Within.{Within}
 use Rattle.rst_block_nodes.specs.declared.fault.BlockFault.{BlockFault}
 use Rattle.rst_block_state.specs.declared.open_block.OpenBlock.{OpenBlock}
 use Rattle.rst_block_state.specs.declared.waits.Waits.TheVariants.{Element}
 use Rattle.rst_block_state.specs.declared.step.Step.{Step}
-use Rattle.rst_block_state.specs.declared.step.Step.TheVariants.{Open}
+use Rattle.rst_block_state.specs.declared.step.Step.TheVariants.{Next, Open}
 use Rattle.rst_block_state.specs.declared.texts.Pass.{Pass}
 use Rattle.rst_block_markup.proofs.MarkupReads.{content_comes, titled_then}
-use Rattle.rst_block_markup.proofs.PartLemmas.{part_as}
+use Rattle.rst_block_markup.proofs.PartLemmas.{nodes_read, part_as}
 
--- ---- a directive by its argument and its content
+-- ---- a directive by its content and its argument
 
--- what such a directive leaves, and the blocks of its content
-abbrev IsRightBy : ArgumentMeaning → ContentKind → Within → Block → ℕ → Read → List ℕ → Content → Numbered (List Node) → List Block → Type 0
-IsRightBy given kind c B line read lines content nodes inner = (nodes ≡ right_by given kind c B line read lines) × (inner ≡ directive_content given kind B content)
+-- a directive whose content is blocks, with this argument
+pub opened_read : {few more : ℕ} {B : Block} {old new : OpenBlock} {before after : Pass} {argument : Argument} {result : Result Step BlockFault} (f : Found) (given : ArgumentMeaning)
+    → IsOpenedRead few B old before f given new after result → has_blocks f.kind.content ≡ true → f.argument ≡ argument
+    → ((c : Within) (line : ℕ) (lines : List ℕ) → opened_by given c B line (read_of_directive f) lines ≡ opened_by (given_in argument) c B line (read_of_directive f) lines)
+    → few ≤ more → IsDirectiveRead more B old before f new after result
+opened_read {B = B} {old} f given h blocks is same enough =
+    let c = within_at old.depth in
+    let line = first_number (drop old.at B) in
+    let lines = span_source B (record { start = old.at; stop = f.end }) in
+    let read = read_of_directive f in
+    part_as h
+    (same c line lines ∙ ap (λ a. opened_by (given_in a) c B line read lines) (sym is)
+    ∙ ap (λ b. cond b (opened_by read.argument c B line read lines) (closed_nodes B line read)) (sym blocks))
+    (ap (λ b. cond b (content_blocks B f.content) []) (sym blocks)) refl (omega arith) (omega (arith, enough))
 
-pub figure_right : (kind : ContentKind) (t : List ℕ) (c : Within) (B : Block) (line : ℕ) (read : Read) (lines : List ℕ) (content : Content) → is_caption kind ≡ true → encode_utf8_all (chars t) ≡ t
-    → IsRightBy (uri (chars t)) kind c B line read lines content (figure_of c B line read t lines) (content_blocks B content)
-figure_right Caption t c B line read lines content h u = (ap (λ a. figure_of c B line read a lines) (sym u), refl)
-figure_right _ t c B line read lines content h u = absurd (let no : false ≡ true = h in cc)
+-- one with neither a title nor a URI
+pub plain_opened : (a : Argument) → ((part : Part) → a ≡ Title part → ⊥) → ((text : _) → a ≡ Uri text → ⊥) → (c : Within) (B : Block) (line : ℕ) (read : Read) (lines : List ℕ)
+    → opened_by nothing c B line read lines ≡ opened_by (given_in a) c B line read lines
+plain_opened (Title part) no_title no_uri c B line read lines = absurd (no_title part refl)
+plain_opened (Uri text) no_title no_uri c B line read lines = absurd (no_uri text refl)
+plain_opened _ no_title no_uri c B line read lines = refl
 
-pub image_right : (kind : ContentKind) (t : List ℕ) (c : Within) (B : Block) (line : ℕ) (read : Read) (lines : List ℕ) (content : Content) → is_caption kind ≡ false → encode_utf8_all (chars t) ≡ t
-    → IsRightBy (uri (chars t)) kind c B line read lines content (just (image_element t read.options line false None ∷ [])) []
-image_right Caption t c B line read lines content h u = absurd (let no : true ≡ false = h in cc)
-image_right _ t c B line read lines content h u = (ap (λ a. just (image_element a read.options line false None ∷ [])) (sym u), refl)
+-- one that holds no blocks
+pub closed_read : {more : ℕ} {B : Block} {old new : OpenBlock} {before after : Pass} (f : Found) (ns : List Node) → has_blocks f.kind.content ≡ false → HasMoreAt old new ns f.end → old.at < f.end
+    → closed_nodes B (first_number (drop old.at B)) (read_of_directive f) before.numbers ≡ Ok (ns, after.numbers)
+    → capped before.looks ≤ after.looks → after.looks ≤ before.looks + more → IsDirectiveRead more B old before f new after (Ok Next)
+closed_read {B = B} {old} {before = before} f ns blocks h later n low high =
+    let c = within_at old.depth in
+    let line = first_number (drop old.at B) in
+    let lines = span_source B (record { start = old.at; stop = f.end }) in
+    let read = read_of_directive f in
+    nodes_read ns h later
+    (ap (λ b. cond b (opened_by read.argument c B line read lines) (closed_nodes B line read) before.numbers) blocks ∙ n)
+    (ap (λ b. cond b (content_blocks B f.content) []) (sym blocks)) low high
 
-pub code_right : (kind : ContentKind) (c : Within) (B : Block) (line : ℕ) (read : Read) (lines : List ℕ) (content : Content) → is_lines kind ≡ true
-    → IsRightBy nothing kind c B line read lines content (just (code_nodes B line read None)) []
-code_right Lines c B line read lines content h = (refl, refl)
-code_right _ c B line read lines content h = absurd (let no : false ≡ true = h in cc)
-
-pub plain_right : (kind : ContentKind) (c : Within) (B : Block) (line : ℕ) (read : Read) (lines : List ℕ) (content : Content) → is_lines kind ≡ false
-    → IsRightBy nothing kind c B line read lines content (plain_nodes c B line read) (content_blocks B content)
-plain_right Lines c B line read lines content h = absurd (let no : true ≡ false = h in cc)
-plain_right _ c B line read lines content h = (refl, refl)
-
--- a directive whose argument is this one
-pub given_read : {few more : ℕ} {B : Block} {old new : OpenBlock} {before after : Pass} {argument : Argument} {result : Result Step BlockFault} (f : Found) (given : ArgumentMeaning)
-    → IsDirectiveRead few B old before f given new after result → given ≡ given_in argument → f.argument ≡ argument → few ≤ more → IsDirectiveRead more B old before f (given_in f.argument) new after result
-given_read {few} {more} {B} {old} {new} {before} {after} {argument} {result} f given h g is enough =
-    subst (λ x. IsDirectiveRead more B old before f x new after result) (g ∙ ap given_in (sym is)) (part_as h refl refl refl (omega arith) (omega (arith, enough)))
+-- the text of one that holds a text, in other words
+pub text_is : {parts asked : Parts} {line at : ℕ} {t u : List ℕ} (literal : Bool) (read : Read) → parts ≡ asked → line ≡ at → t ≡ u → marked_text literal read parts line t ≡ marked_text literal read asked at u
+text_is {parts} {asked} {line} {at} {t} {u} literal read p l e = ap (λ x. marked_text literal read x line t) p ∙ ap (λ k. marked_text literal read asked k t) l ∙ ap (marked_text literal read asked at) e
 
 -- ---- what comes
 
 pub titled_comes : (old new : OpenBlock) (B : Block) (read : Read) (lines : Block) (end n m line at : ℕ) (node : Node) (s : Step)
-    → then_read (λ (made : Node × List Node). just (filled (titled_element read.kind.element (directive_element read.kind.element read.options line) made.0) (made.0 ∷ made.1)))
-    (texted TitleTag (number_or line lines) (joined lines) (number_or line lines) n)
+    → then_read (λ (made : Node × List Node). just (filled (titled_element read.kind.element (directive_element read.kind.element read.argument read.options line) made.0) (made.0 ∷ made.1)))
+    (texted (first_parts lines) TitleTag (number_or line lines) (joined lines) (number_or line lines) n)
     ≡ Ok (node, m)
     → line ≡ at → s ≡ Open (Element node) read.content.first (Some read.content.second) → new.at ≡ end → IsMoved old new
     → comes new B s m ≡ reads_with old B (titled_nodes (within_at old.depth) B at read lines) end n
@@ -81,23 +89,19 @@ titled_comes old new B read lines end n m line at node s h l e a moved =
     ap (λ s. comes new B s m) e
     ∙ content_comes B (Element node) read.content (λ ns. filled node ns ∷ []) m moved a (λ ns. refl)
     ∙ ap (then_read (λ ns. reads_from old B ns end))
-    (sym (titled_then (texted TitleTag (number_or line lines) (joined lines) (number_or line lines) n) (titled_element read.kind.element (directive_element read.kind.element read.options line)) (content_nodes c B read.content) node m h))
+    (sym (titled_then (texted (first_parts lines) TitleTag (number_or line lines) (joined lines) (number_or line lines) n) (titled_element read.kind.element (directive_element read.kind.element read.argument read.options line)) (content_nodes c B read.content) node m h))
     ∙ ap (λ k. reads_with old B (titled_nodes c B k read lines) end n) l
 
-pub plain_comes : (old new : OpenBlock) (B : Block) (read : Read) (end n line at : ℕ) (node : Node) (slice : List Setting) (s : Step) → node ≡ directive_element read.kind.element (choices_in slice) line
+pub plain_comes : (old new : OpenBlock) (B : Block) (read : Read) (end n line at : ℕ) (node : Node) (slice : List Setting) (s : Step) → node ≡ directive_element read.kind.element read.argument (choices_in slice) line
     → choices_in slice ≡ read.options → line ≡ at → s ≡ Open (Element node) read.content.first (Some read.content.second) → new.at ≡ end → IsMoved old new
     → comes new B s n ≡ reads_with old B (plain_nodes (within_at old.depth) B at read) end n
 plain_comes old new B read end n line at node slice s h o l e a moved =
     let c = within_at old.depth in
     ap (λ s. comes new B s n) e
     ∙ content_comes B (Element node) read.content (λ ns. filled node ns ∷ []) n moved a (λ ns. refl)
-    ∙ ap (λ x. reads_with old B (made_of_content c B read.content (λ ns. filled x ns ∷ [])) end n) (h ∙ ap (λ os. directive_element read.kind.element os line) o ∙ ap (directive_element read.kind.element read.options) l)
+    ∙ ap (λ x. reads_with old B (made_of_content c B read.content (λ ns. filled x ns ∷ [])) end n) (h ∙ ap (λ os. directive_element read.kind.element read.argument os line) o ∙ ap (directive_element read.kind.element read.argument read.options) l)
 
 -- ---- elements
-
-pub image_is : (node : Node) (t : List ℕ) (slice items : List Setting) (line at : ℕ) → node ≡ image_element t (choices_in slice) line false None → slice ≡ items → line ≡ at
-    → just (node ∷ []) ≡ just (image_element t (choices_in items) at false None ∷ [])
-image_is node t slice items line at e s l = ap (λ (x : Node). just (x ∷ [])) (e ∙ ap (λ ss. image_element t (choices_in ss) line false None) s ∙ ap (λ k. image_element t (choices_in items) k false None) l)
 
 pub figure_is : (c : Within) (B : Block) (read : Read) (t lines : List ℕ) (line at : ℕ) (slice : List Setting) (element image_node figure : Node) (inner : List Node)
     → element ≡ figure_element (choices_in slice) line → image_node ≡ image_element t (choices_in slice) line true None → inner ≡ image_node ∷ [] → figure ≡ filled element inner

@@ -1,27 +1,25 @@
 -- What directives and substitution definitions take of looks: the blocks that they open, and how many lines their parts have.
-use Rattle.std.proofs.Common.{◌≡◌, ℕ, ◌-◌, ◌≤◌, Bool, true, false, cond, List, [], ◌∷◌, length, take, drop, Option, None, Some, option_map, Result, Ok, Err, arith, sym, subst}
+use Rattle.std.proofs.Common.{◌≡◌, ℕ, ◌-◌, ◌≤◌, Bool, true, false, cond, List, [], ◌∷◌, length, take, drop, Option, None, Some, Result, Ok, Err, arith, sym, subst}
 use Rattle.rst_text.specs.Block.{Block, first_parts}
 use Rattle.rst_text.specs.Names.{normalized_white}
 use Rattle.rst_text.specs.Characters.{is_among}
 use Rattle.rst_markup_blocks.specs.declared.forms.Invocation.{Invocation}
 use Rattle.rst_markup_blocks.specs.declared.part.Part.{Part}
 use Rattle.rst_markup_directives.specs.Argument.{ArgumentMeaning, title, language, title_argument, uri_of, word_of, language_of, argument_of}
-use Rattle.rst_markup_directives.specs.Call.{called_at, part_of, content_of, is_empty}
+use Rattle.rst_markup_directives.specs.Call.{called_at, part_of, content_of}
 use Rattle.rst_markup_directives.specs.Characters.{Text}
-use Rattle.rst_markup_directives.specs.Directive.{Read, Outcome, found, wrong, run_in, directive_options, directive_outcome, read_parts, directive_by_layout, read_block, read_at, directive_outcome_at, of_block, judged_directive, named_directive, source_lines_at, is_late, directive_of}
-use Rattle.rst_markup_directives.specs.Judgement.{content_fault}
+use Rattle.rst_markup_directives.specs.Directive.{Read, Outcome, found, wrong, run_in, directive_options, directive_outcome, read_parts, directive_by_layout, read_block, read_at, directive_outcome_at, fault_of, of_block, judged_directive, named_directive, source_lines_at, is_late, directive_of}
 use Rattle.rst_markup_directives.specs.Layout.{layout_of}
 use Rattle.rst_markup_directives.specs.Lines.{joined_nonempty}
 use Rattle.rst_markup_directives.specs.Options.{OptionSetting}
-use Rattle.rst_markup_directives.specs.Wrong.{Wrong, Fault, many_arguments, and_then, unless, fault_in}
+use Rattle.rst_markup_directives.specs.Wrong.{Wrong, Fault, many_arguments, and_then, unless}
 use Rattle.rst_markup_directives.specs.declared.argument.Argument.TheVariants.{Title}
-use Rattle.rst_markup_directives.specs.declared.fault.DirectiveFault.{DirectiveFault}
 use Rattle.rst_markup_directives.specs.declared.found.Content.{Content}
 use Rattle.rst_markup_directives.specs.declared.found.Directive.{Directive}
 use Rattle.rst_markup_directives.specs.declared.found.Directive.TheVariants.{Found as FoundDirective, Wrong as WrongDirective}
 use Rattle.rst_markup_directives.specs.declared.found.Place.{Place}
 use Rattle.rst_markup_directives.specs.declared.kind.ArgumentKind.{ArgumentKind}
-use Rattle.rst_markup_directives.specs.declared.kind.ArgumentKind.TheVariants.{Absent as NoArgument, Title as TitleArgument, Uri as UriArgument, Language as LanguageArgument}
+use Rattle.rst_markup_directives.specs.declared.kind.ArgumentKind.TheVariants.{Absent as NoArgument, Title as TitleArgument, Uri as UriArgument, Language as LanguageArgument, Formats as FormatsArgument, Classes as ClassesArgument}
 use Rattle.rst_markup_directives.specs.declared.kind.Kind.{Kind}
 use Rattle.rst_block_state.specs.Directives.{called}
 use Rattle.rst_block_state.specs.looks.Ledger.{argument_lines}
@@ -42,9 +40,12 @@ abbrev MayBeShort : ℕ → Result ArgumentMeaning Wrong → Type 0
 MayBeShort n (Ok given) = IsShort n given
 MayBeShort n (Err w) = Unit {0}
 
--- nor has the content after the options
+-- nor have the two parts of the content
+abbrev pub IsContentShort : ℕ → Content → Type 0
+IsContentShort n content = (content.first.to - content.first.from ≤ n) × (content.second.to - content.second.from ≤ n)
+
 abbrev AreShort : ℕ → Read → Type 0
-AreShort n read = IsShort n read.argument × (read.content.second.to - read.content.second.from ≤ n)
+AreShort n read = IsShort n read.argument × IsContentShort n read.content
 
 abbrev MayBeReadShort : ℕ → Result Read Wrong → Type 0
 MayBeReadShort n (Ok read) = AreShort n read
@@ -70,7 +71,7 @@ language_short n (t ∷ ts) = by (is_among words 32)
     words : Text
     words = normalized_white (joined_nonempty (t ∷ ts))
 
-    by : (b : Bool) → MayBeShort n (cond b (Err many_arguments) (Ok (language words)))
+    by : (b : Bool) → MayBeShort n (cond b (Err many_arguments) (Ok (language (Some words))))
     by true = tt
     by false = tt
 
@@ -80,8 +81,11 @@ argument_short n NoArgument ts block to h = tt
 argument_short n TitleArgument ts block to h = title_short n ts (part_of block 0 to) (omega arith)
 argument_short n UriArgument ts block to h = uri_short n ts
 argument_short n LanguageArgument ts block to h = language_short n ts
+argument_short n FormatsArgument [] block to h = tt
+argument_short n ClassesArgument [] block to h = tt
+argument_short n _ (t ∷ ts) block to h = tt
 
-parts_short : (n : ℕ) (kind : Kind) (content : Content) (given : Result ArgumentMeaning Wrong) (choices : Result (List OptionSetting) Wrong) → MayBeShort n given → content.second.to - content.second.from ≤ n
+parts_short : (n : ℕ) (kind : Kind) (content : Content) (given : Result ArgumentMeaning Wrong) (choices : Result (List OptionSetting) Wrong) → MayBeShort n given → IsContentShort n content
     → MayBeReadShort n (read_parts kind content given choices)
 parts_short n kind content given (Err w) h k = tt
 parts_short n kind content (Err w) (Ok choices) h k = tt
@@ -94,13 +98,13 @@ block_short n kind late block H few =
     let layout = layout_of kind run H in
     let within = block_within kind late H in
     parts_short n kind (content_of block layout (length H)) (argument_of kind.argument (take layout.argument run) (part_of block 0 layout.argument)) (directive_options (first_parts H) kind.options (drop layout.options run))
-    (argument_short n kind.argument (take layout.argument run) block layout.argument (omega (arith, few, within.argument))) (omega (arith, few))
+    (argument_short n kind.argument (take layout.argument run) block layout.argument (omega (arith, few, within.argument))) (omega (arith, few, within.first), omega (arith, few))
 
 judged_short : (n : ℕ) (place : Place) (paragraph : Bool) (source : Part) (read : Result Read Wrong) → MayBeReadShort n read → AreOutcomeShort n (directive_outcome_at source (and_then (judged_directive place paragraph) (of_block read)))
 judged_short n place paragraph source (Err w) h = tt
-judged_short n place paragraph source (Ok read) h = by (content_fault read.kind (is_empty read.content) place paragraph)
+judged_short n place paragraph source (Ok read) h = by (fault_of place paragraph read)
   where
-    by : (fault : Option DirectiveFault) → AreOutcomeShort n (directive_outcome_at source (unless (option_map fault_in fault) (Ok read)))
+    by : (fault : Option Fault) → AreOutcomeShort n (directive_outcome_at source (unless fault (Ok read)))
     by (Some fault) = tt
     by None = h
 
@@ -115,9 +119,9 @@ outcome_short n c B i call place few = by (named_directive (called_at c.code B i
     by (Ok kind) = judged_short n place paragraph (source_lines_at i call.block) (read_block kind (is_late i call.block) call.block (lines_in B call.block)) (block_short n kind (is_late i call.block) call.block (lines_in B call.block) few)
     by (Err w) = tt
 
--- a directive's title, and its content after the options, have no more lines than this
+-- a directive's title, and the two parts of its content, have no more lines than this
 abbrev pub AreFew : ℕ → Directive → Type 0
-AreFew n (FoundDirective kind argument options content) = (argument_lines argument ≤ n) × (content.second.to - content.second.from ≤ n)
+AreFew n (FoundDirective kind argument options content) = (argument_lines argument ≤ n) × IsContentShort n content
 AreFew n (WrongDirective fault source) = Unit {0}
 
 kept_few : (n : ℕ) (d : Directive) → AreOutcomeShort n (directive_outcome d) → AreFew n d

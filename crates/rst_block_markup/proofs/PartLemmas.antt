@@ -7,8 +7,8 @@ use Rattle.rst_markup_directives.specs.Call.{IsContentIn}
 use Rattle.rst_markup_directives.specs.declared.found.Content.{Content}
 use Rattle.rst_block_state.specs.Inside.{content_blocks}
 use Rattle.rst_block_state.specs.looks.Ledger.{Opens, WaitsForOne, waiting_looks, run_looks, totals}
-use Rattle.rst_block_state.specs.machine.Meanings.{comes}
-use Rattle.rst_block_state.specs.Numbered.{Numbered, just}
+use Rattle.rst_block_state.specs.machine.Meanings.{comes, reads_from}
+use Rattle.rst_block_state.specs.Numbered.{Numbered, just, then_read}
 use Rattle.rst_block_state.specs.machine.OpenBlocks.{Gives, HasMoreAt, IsMoved}
 use Rattle.rst_block_state.specs.machine.Steps.{IsWaiting}
 use Rattle.rst_block_state.specs.Texts.{lines_in}
@@ -50,18 +50,31 @@ opens_none few B before after h some enough = record {
   least = some;
 }
 
+-- nodes were put after the last, after some looks
+pub nodes_read : {more : ℕ} {B : Block} {old new : OpenBlock} {before after : Pass} {nodes : Numbered (List Node)} {inner : List Block} {end : ℕ} (ns : List Node)
+    → HasMoreAt old new ns end → old.at < end → nodes before.numbers ≡ Ok (ns, after.numbers) → [] ≡ inner → capped before.looks ≤ after.looks → after.looks ≤ before.looks + more
+    → IsPartRead more B old before nodes inner end new after (Ok Next)
+nodes_read {more} {B} {old} {new} {before} {after} {nodes} {inner} {end} ns h later n i low high = record {
+  step = omega (arith, later, h.at);
+  read = at_number after.numbers (more_is_read B h) ∙ sym (ap (then_read (λ ns. reads_from old B ns end)) n);
+  paid = subst (λ Cs. Opens more old new B Cs end Next before.looks after.looks) i (opens_none more B before.looks after.looks h low high);
+}
+
 -- a node is put after the last, after some looks
+pub put_at : {more : ℕ} {B : Block} {old new : OpenBlock} {before after : Pass} {nodes : Numbered (List Node)} {inner : List Block} {end : ℕ} {result : Result Step BlockFault} (node : Node)
+    → Gives (λ s. (s ≡ Next) × HasMoreAt old new (node ∷ []) end) result → old.at < end → nodes before.numbers ≡ Ok (node ∷ [], after.numbers) → [] ≡ inner → capped before.looks ≤ after.looks
+    → after.looks ≤ before.looks + more → IsPartRead more B old before nodes inner end new after result
+put_at {more} {B} {old} {new} {before} {after} {nodes} {inner} {end} {result = Ok s} node h later n i low high =
+    subst (λ x. IsPartRead more B old before nodes inner end new after (Ok x)) (sym h.0) (nodes_read (node ∷ []) h.1 later n i low high)
+put_at {result = Err (TooDeep line)} node h later n i low high = absurd h
+put_at {result = Err NoMemory} node h later n i low high = record { step = tt; read = tt; paid = tt }
+
+-- the same where no text is read
 pub put_reads : {more : ℕ} {B : Block} {old new : OpenBlock} {before after : Pass} {nodes : Numbered (List Node)} {inner : List Block} {end : ℕ} {result : Result Step BlockFault} (node : Node)
     → Gives (λ s. (s ≡ Next) × HasMoreAt old new (node ∷ []) end) result → old.at < end → just (node ∷ []) ≡ nodes → [] ≡ inner → after.numbers ≡ before.numbers → capped before.looks ≤ after.looks
     → after.looks ≤ before.looks + more → IsPartRead more B old before nodes inner end new after result
-put_reads {more} {B} {old} {new} {before} {after} {nodes} {inner} {end} {result = Ok s} node h later n i same low high =
-    subst (λ x. IsPartRead more B old before nodes inner end new after (Ok x)) (sym h.0) (record {
-      step = omega (arith, later, h.1.at);
-      read = at_number after.numbers (more_is_read B h.1) ∙ ap (λ (read : Numbered (List Node)). reads_with old B read end after.numbers) n ∙ ap (reads_with old B nodes end) same;
-      paid = subst (λ Cs. Opens more old new B Cs end Next before.looks after.looks) i (opens_none more B before.looks after.looks h.1 low high);
-    })
-put_reads {result = Err (TooDeep line)} node h later n i same low high = absurd h
-put_reads {result = Err NoMemory} node h later n i same low high = record { step = tt; read = tt; paid = tt }
+put_reads {before = before} {after} node h later n i same low high =
+    put_at node h later (ap (λ (read : Numbered (List Node)). read before.numbers) (sym n) ∙ ap (λ k. Ok (node ∷ [], k)) (sym same)) i low high
 
 -- the content of a directive is opened, for whose nodes a block waits
 pub content_reads : {more : ℕ} {B : Block} {old new : OpenBlock} {before after : Pass} {nodes : Numbered (List Node)} {inner : List Block} {end : ℕ} {s : Step} (w : Waits) (content : Content)

@@ -1,7 +1,5 @@
 -- Substitution definitions: what a block gives once one in it is read, and the text that one is replaced by.
 use Rattle.std.proofs.Common.{◌≡◌, ℕ, true, false, List, [], ◌∷◌, drop, codes, Some, None, refl, sym, ◌∙◌, ap}
-use Rattle.std.specs.Prelude.{encode_utf8_all}
-use Rattle.std.specs.Str.{chars}
 use Rattle.rst_text.specs.Block.{Block, first_number}
 use Rattle.rst_tree.specs.Forest.{Forest}
 use Rattle.rst_tree.specs.Nodes.{forest_of, nodes_of}
@@ -9,35 +7,15 @@ use Rattle.rst_tree.specs.declared.node.Node.{Node}
 use Rattle.rst_tree.specs.declared.note.Level.TheVariants.{Warning, Error}
 use Rattle.rst_tree.proofs.Changes.{nodes_of-forest_of}
 use Rattle.rst_markup_blocks.specs.Partition.{Span}
-use Rattle.rst_markup_directives.specs.Argument.{uri}
-use Rattle.rst_markup_directives.specs.Directive.{Outcome, found}
-use Rattle.rst_markup_directives.specs.Options.{OptionSetting}
-use Rattle.rst_markup_directives.specs.declared.found.Content.{Content}
-use Rattle.rst_markup_directives.specs.declared.kind.Kind.{Kind}
 use Rattle.rst_block_nodes.specs.Elements.{substitution_definition_node}
-use Rattle.rst_block_nodes.specs.Options.{image_element}
 use Rattle.rst_block_nodes.specs.Targets.{may_replace}
 use Rattle.rst_block_nodes.specs.Texts.{message_node}
 use Rattle.rst_block_nodes.specs.Values.{normalized, unescaped}
 use Rattle.rst_block_nodes.specs.Sections.{filled}
-use Rattle.rst_block_state.specs.Directives.{about, definition_or_error, replacement, substitution_nodes}
+use Rattle.rst_block_state.specs.Directives.{about, replacement, substitution_nodes}
 use Rattle.rst_block_state.specs.Numbered.{just}
 use Rattle.rst_block_state.specs.Texts.{span_source}
 use Rattle.rst_block_state.specs.Within.{Within}
-
-image_in_definition : List OptionSetting → ℕ → List ℕ → List ℕ → Node
-image_in_definition choices line name address = filled (substitution_definition_node name line) (image_element address choices line false (Some name) ∷ [])
-
--- a definition that holds an image
-pub image_holds : (outcome : Outcome) (kind : Kind) (choices : List OptionSetting) (content : Content) (word t displayed n written : List ℕ) (c : Within) (B : Block) (s : Span) (line : ℕ) (node : Node)
-    → outcome ≡ found (record { kind = kind; argument = uri (chars word); options = choices; content = content }) → t ≡ word → encode_utf8_all (chars t) ≡ t → displayed ≡ n → line ≡ first_number (drop s.start B)
-    → node ≡ filled (substitution_definition_node displayed line) (image_element t choices line false (Some displayed) ∷ []) → just (node ∷ []) ≡ definition_or_error outcome c B s n written
-unfolding image_in_definition
-image_holds outcome kind choices content word t displayed n written c B s line node o h u e l m =
-    let at : ℕ = first_number (drop s.start B) in
-    ap (λ (x : Node). just (x ∷ []))
-    (m ∙ ap (λ x. image_in_definition choices line x t) e ∙ ap (λ k. image_in_definition choices k n t) l ∙ ap (image_in_definition choices at n) (sym u ∙ ap (λ w. encode_utf8_all (chars w)) h))
-    ∙ ap (λ (x : Outcome). definition_or_error x c B s n written) (sym o)
 
 -- a definition that holds no directive
 pub none_holds : (c : Within) (B : Block) (s : Span) (written name reported_name text displayed : List ℕ) (line : ℕ) (node : Node) → reported_name ≡ name → name ≡ normalized (unescaped written) → text ≡ about reported_name (codes " empty or invalid.")

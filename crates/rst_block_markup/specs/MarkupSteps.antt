@@ -1,5 +1,6 @@
 -- Explicit markup, step by step: what a block gives where its next line begins some, and directives as they are kept. No rule of markup.
-use Rattle.std.specs.Prelude.{ℕ, ◌<◌, length, drop, Bool, true, false, List, Option, Some, None, Result, IfOk, if◌then◌else◌}
+use Rattle.std.specs.Prelude.{◌≡◌, ℕ, ◌+◌, ◌-◌, ◌<◌, length, drop, Bool, true, false, List, ◌∷◌, Option, Some, None, Result, Ok, IfOk, if◌then◌else◌}
+use Rattle.rst_settings.specs.declared.Parts.{Parts}
 use Rattle.rst_text.specs.Block.{Block, first_number}
 use Rattle.rst_tree.specs.declared.node.Node.{Node}
 use Rattle.rst_markup_directives.specs.Argument.{ArgumentMeaning, given_in}
@@ -11,23 +12,25 @@ use Rattle.rst_markup_directives.specs.declared.found.Content.{Content}
 use Rattle.rst_markup_directives.specs.declared.found.Place.{Place}
 use Rattle.rst_markup_directives.specs.declared.found.Place.TheVariants.{Top, Body}
 use Rattle.rst_markup_directives.specs.declared.kind.Kind.{Kind}
+use Rattle.rst_block_nodes.specs.Options.{with_options}
 use Rattle.rst_block_state.specs.Constructs.{explicit_markup}
-use Rattle.rst_block_state.specs.Directives.{content_nodes, right_by}
+use Rattle.rst_block_state.specs.Directives.{content_nodes, opened_by, right_nodes}
 use Rattle.rst_block_state.specs.Figures.{Beginning, caption, no_caption, neither}
-use Rattle.rst_block_state.specs.Inside.{directive_content}
-use Rattle.rst_block_state.specs.looks.Ledger.{Opens}
+use Rattle.rst_block_state.specs.Inside.{content_blocks, directive_content}
+use Rattle.rst_block_state.specs.looks.Ledger.{Opens, argument_lines}
 use Rattle.rst_block_state.specs.machine.Meanings.{Keeps, comes, open_run_of, within_at, done_of, reads_from}
 use Rattle.rst_block_state.specs.Numbered.{Numbered, ◌>>=◌, just, before}
 use Rattle.rst_block_state.specs.machine.Rest.{OpenRun, open_markup, rest_with}
 use Rattle.rst_block_state.specs.machine.RestLaws.{found_as}
 use Rattle.rst_block_state.specs.machine.Steps.{IsStep}
-use Rattle.rst_block_state.specs.Texts.{span_source}
+use Rattle.rst_block_state.specs.Texts.{span_source, texted}
 use Rattle.rst_block_state.specs.Titles.{Item}
 use Rattle.rst_block_state.specs.Within.{Within}
 use Rattle.rst_block_markup.specs.declared.directive.Found.{Found}
 use Rattle.rst_block_markup.specs.declared.figure.ContentStart.{ContentStart}
 use Rattle.rst_block_markup.specs.declared.figure.ContentStart.TheVariants.{Caption, Missing, Wrong}
 use Rattle.rst_block_nodes.specs.declared.fault.BlockFault.{BlockFault}
+use Rattle.rst_block_nodes.specs.declared.texted.Texted.{Texted}
 use Rattle.rst_block_state.specs.declared.open_block.OpenBlock.{OpenBlock}
 use Rattle.rst_block_state.specs.declared.step.Step.{Step}
 use Rattle.rst_block_state.specs.declared.texts.Pass.{Pass}
@@ -82,12 +85,33 @@ pub record IsRight (B : Block) (at : ℕ) (found : Found) : Type 0 where
   pub inside : at < length B
   pub later : at < found.end
 
--- a right directive with an argument was read, which is at the next line of a block
-abbrev pub IsDirectiveRead : ℕ → Block → OpenBlock → Pass → Found → ArgumentMeaning → OpenBlock → Pass → Result Step BlockFault → Type 0
-IsDirectiveRead few B old before f given new after result =
+-- a right directive was read, which is at the next line of a block
+abbrev pub IsDirectiveRead : ℕ → Block → OpenBlock → Pass → Found → OpenBlock → Pass → Result Step BlockFault → Type 0
+IsDirectiveRead few B old before f new after result =
     let lines = span_source B (record { start = old.at; stop = f.end }) in
-    let nodes = right_by given f.kind.content (within_at old.depth) B (first_number (drop old.at B)) (read_of_directive f) lines in
-    IsPartRead few B old before nodes (directive_content given f.kind.content B f.content) f.end new after result
+    let nodes = right_nodes (within_at old.depth) B (first_number (drop old.at B)) (read_of_directive f) lines in
+    IsPartRead few B old before nodes (directive_content f.kind.content B f.content) f.end new after result
+
+-- the same of one with this argument, whose content is blocks
+abbrev pub IsOpenedRead : ℕ → Block → OpenBlock → Pass → Found → ArgumentMeaning → OpenBlock → Pass → Result Step BlockFault → Type 0
+IsOpenedRead few B old before f given new after result =
+    let lines = span_source B (record { start = old.at; stop = f.end }) in
+    let nodes = opened_by given (within_at old.depth) B (first_number (drop old.at B)) (read_of_directive f) lines in
+    IsPartRead few B old before nodes (content_blocks B f.content) f.end new after result
+
+-- how many lines the argument and the content of a directive have
+abbrev pub text_lines : Found → ℕ
+text_lines f = argument_lines f.argument + (f.content.first.to - f.content.first.from) + (f.content.second.to - f.content.second.from)
+
+-- an element and the messages on its text were read, where messages are numbered from `number` on, and then from `next` on
+abbrev pub HoldsNodes : Numbered (List Node) → ℕ → ℕ → Texted → Type 0
+HoldsNodes nodes number next made = nodes number ≡ Ok (made.element ∷ made.notes.items, next)
+
+-- the element of a directive that has this text with inline markup, and the messages on the text
+abbrev pub marked_text : Bool → Read → Parts → ℕ → List ℕ → Numbered (List Node)
+marked_text literal read parts line text = do
+  made ← texted parts read.kind.element line text line
+  just (with_options literal read.options made.0 ∷ made.1)
 
 -- what the content of a figure begins with, as it is kept
 abbrev pub beginning_in : ContentStart → Beginning

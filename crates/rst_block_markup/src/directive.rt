@@ -1,49 +1,45 @@
 //! Directives as blocks (Markup Specification, 'Directives').
-ghost use Rattle.std.specs.Prelude.{◌≡◌, ℕ, ◌+◌, ◌-◌, ◌*◌, ◌<◌, ◌≤◌, ◌==◌, [], true, length, drop, slice_range, option_map, Some, Ok, IfOk};
+ghost use Rattle.std.specs.Prelude.{◌≡◌, ℕ, ◌+◌, ◌-◌, ◌*◌, ◌<◌, ◌≤◌, ◌==◌, ◌∷◌, [], length, string_bytes, drop, slice_range, option_map, Some, Ok, IfOk};
 ghost use Rattle.std.specs.Str.{chars};
 ghost use Rattle.rst_text.specs.Block.{Block, first_number};
 ghost use Rattle.rst_text.specs.Looked.{Looked, capped};
 ghost use Rattle.rst_text.specs.ViewBlock.{block_of};
-ghost use Rattle.rst_tree.specs.declared.note.Level.TheVariants.{Error};
 ghost use Rattle.rst_markup_directives.specs.Argument as given;
 ghost use Rattle.rst_markup_directives.specs.Directive as directives;
-ghost use Rattle.rst_markup_directives.specs.Message.{fault_text};
 ghost use Rattle.rst_markup_directives.specs.Wrong.{fault_in};
-ghost use Rattle.rst_block_nodes.specs.Options.{directive_element};
-ghost use Rattle.rst_block_nodes.specs.Sections.{filled};
 ghost use Rattle.rst_block_state.specs.Directives as meaning;
-ghost use Rattle.rst_block_markup.specs.MarkupSteps.{IsDirectiveRead, IsPartRead, IsRight, place_in, read_of_directive};
+ghost use Rattle.rst_block_markup.specs.MarkupSteps.{HoldsNodes, IsDirectiveRead, IsOpenedRead, IsPartRead, IsRight, marked_text, place_in, read_of_directive, text_lines};
 ghost use Rattle.rst_block_state.specs.machine.Meanings.{within_at};
-ghost use Rattle.rst_block_state.specs.Numbered.{just};
-ghost use Rattle.rst_markup_directives.specs.Call.{IsArgumentIn, IsDirectiveIn};
+ghost use Rattle.rst_markup_directives.specs.Call.{IsArgumentIn, IsContentIn, IsDirectiveIn};
 ghost use Rattle.rst_markup_directives.specs.declared.found.Place.{Place};
 ghost use Rattle.rst_markup_blocks.specs.Parts.{IsBlock, IsCall};
 ghost use Rattle.rst_block_state.specs.machine.OpenBlocks.{Gives, IsMoved};
 ghost use Rattle.rst_block_state.specs.Paragraphs.{is_single_paragraph};
-ghost use Rattle.rst_block_state.specs.Texts.{joined, lines_in, message_with_lines, span_source};
+ghost use Rattle.rst_block_state.specs.Texts.{lines_in, spelled};
 ghost use Rattle.rst_block_state.specs.declared.step.Step.TheVariants.{Open};
 ghost use Rattle.rst_block_state.specs.declared.texts.Pass.{Pass};
-ghost use Rattle.rst_block_state.specs.looks.Ledger.{argument_lines, unread_at};
+ghost use Rattle.rst_block_state.specs.looks.Ledger.{unread_at};
 ghost use Rattle.rst_block_state.specs.Inside.{directive_blocks};
 
 use super::explicit::put;
 use super::single::is_single_paragraph;
 use rst_block_nodes::{
-    append, code_block, directive_element, figure, filled, image, message, with_text,
-    with_title_class,
+    Texted, append, directive_element, figure, filled, image, literal_block, message, with_options,
+    with_text, with_title_class,
 };
 use rst_block_state::{
     OpenBlock, Pass, Result, Step, Waits, alone, excerpt, first_line_or, inside, joined, number_at,
-    source,
+    parts_at, source,
 };
 use rst_markup_blocks::{Invocation, Part};
 use rst_markup_directives::{
     Argument, Content, ContentKind, Directive, DirectiveFault, Kind, Place, Setting, called,
-    directive, message as fault_text,
+    directive, level_of, message as fault_text,
 };
+use rst_settings::Parts;
 use rst_text::{Looks, View};
-use rst_tree::{Level, Node, Tag};
-use std::alloc::Global;
+use rst_tree::{Node, Tag};
+use std::alloc::{AllocError, Global};
 
 /// What a directive is, where `place` is its place.
 pub(crate) fn directive_at(
@@ -142,12 +138,12 @@ fn place_in(titles: bool) -> Place
 
 /// A right directive, which ends at `end`.
 #[derive(Drop)]
-struct Found {
-    kind: Kind,
-    argument: Argument,
-    options: Vec<Setting>,
-    content: Content,
-    end: usize,
+pub(crate) struct Found {
+    pub kind: Kind,
+    pub argument: Argument,
+    pub options: Vec<Setting>,
+    pub content: Content,
+    pub end: usize,
 }
 
 /// The message on a wrong directive, with its lines. `name` is the name in the message.
@@ -161,8 +157,7 @@ pub(crate) fn wrong_directive(
     looks: &mut Looks,
 ) -> Result<Node>
     ensures error { let B = block_of view.now in
-        let text = fault_text (fault_in fault.now) name.now in
-        Gives (λ node. node ≡ message_with_lines Error (first_number (drop at B)) text (span_source B (record { start = at; stop = end }))) result }
+        Gives (λ node. node ≡ meaning.fault_node (fault_in fault.now) B (record { start = at; stop = end }) name.now) result }
     ensures most { looks.new ≤ looks.old + (end - at) }
     ensures each { IfOk result (λ _. capped (looks.old + length (slice_range (block_of view.now) at end)) ≤ looks.new) }
 {
@@ -170,7 +165,7 @@ pub(crate) fn wrong_directive(
     let lines = source(alloc, view, at, end, looks)?;
     Ok(message(
         alloc,
-        Level::Error,
+        level_of(fault),
         number_at(view, at),
         text.as_str(),
         Some(lines.as_str()),
@@ -186,20 +181,126 @@ fn directive_nodes(
 ) -> Result<Step>
     requires right { IsRight (block_of view.now) level.old.at found.now }
     requires argument { IsArgumentIn (block_of view.now) found.now.argument }
-    ensures { let content = found.now.content in
-        let few = argument_lines found.now.argument + (content.second.to - content.second.from) + (found.now.end - level.old.at) in
-        let argument = given.given_in found.now.argument in
-        IsDirectiveRead few (block_of view.now) level.old pass.old found.now argument level.new pass.new result }
+    ensures { let few = text_lines found.now + (found.now.end - level.old.at) in
+        IsDirectiveRead few (block_of view.now) level.old pass.old found.now level.new pass.new result }
 {
+    if !found.kind.content.has_blocks() {
+        let made = closed_nodes(view, level.at, found, pass)?;
+        level.go_to(found.end);
+        level.push(made.element)?;
+        level.append(made.notes)?;
+        return Ok(Step::Next);
+    }
     match &found.argument {
         Argument::Title(title) => titled_block(view, level, found, *title, pass),
-        Argument::Uri(uri) => image_block(pass.alloc, view, level, found, uri.as_str()),
-        Argument::Language(language) => {
-            let language = Some(language.as_str());
-            code_nodes(view, level, found, language, pass)
-        }
-        Argument::Absent => plain_block(view, level, found, pass),
+        Argument::Uri(uri) => figure_block(pass.alloc, view, level, found, uri.as_str()),
+        _ => plain_block(pass.alloc, view, level, found),
     }
+}
+
+/// What a directive in line `at` leaves that holds no blocks, and the messages on its text.
+fn closed_nodes(view: &View<'_>, at: usize, found: &Found, pass: &mut Pass) -> Result<Texted>
+    requires content { IsContentIn (block_of view.now) found.now.content }
+    requires argument { IsArgumentIn (block_of view.now) found.now.argument }
+    ensures read { let line = first_number (drop at (block_of view.now)) in
+        let read = read_of_directive found.now in
+        let nodes = meaning.closed_nodes (block_of view.now) line read in
+        Gives (HoldsNodes nodes pass.old.numbers pass.new.numbers) result }
+    ensures looked { IfOk result (λ _. Looked 0 (text_lines found.now) pass.old.looks pass.new.looks) }
+{
+    let alloc = pass.alloc;
+    let parts = parts_at(view, 0);
+    let line = number_at(view, at);
+    if found.kind.content.is_marked() {
+        let text = content_text(alloc, view, found.content, &mut pass.looks)?;
+        return text_element(found, parts, line, true, text.as_str(), pass);
+    }
+    match &found.argument {
+        Argument::Title(title) => {
+            let text = joined(alloc, &inside(view, *title), &mut pass.looks)?;
+            text_element(found, parts, line, false, text.as_str(), pass)
+        }
+        _ => Ok(Texted {
+            element: closed_element(alloc, view, line, found, None, &mut pass.looks)?,
+            notes: Vec::new(alloc),
+        }),
+    }
+}
+
+/// A directive without blocks and markup, which has the number of its line. `alt` is the alternate text of an image whose options
+/// have none.
+pub(crate) fn closed_element(
+    alloc: Global,
+    view: &View<'_>,
+    line: usize,
+    found: &Found,
+    alt: Option<&str>,
+    looks: &mut Looks,
+) -> Result<Node>
+    requires { IsContentIn (block_of view.now) found.now.content }
+    ensures element { let read = read_of_directive found.now in
+        let alt = option_map (λ text. text.now) alt.entry in
+        Gives (λ node. node ≡ meaning.element_by read.argument alt (block_of view.now) line read) result }
+    ensures looked { IfOk result (λ _. Looked 0 (text_lines found.now) looks.old looks.new) }
+{
+    let options = found.options.as_slice();
+    match &found.argument {
+        Argument::Uri(uri) => Ok(image(alloc, uri.as_str(), options, line, false, alt)?),
+        argument => {
+            let text = content_text(alloc, view, found.content, looks)?;
+            let element = found.kind.element;
+            Ok(literal_block(alloc, element, argument, options, text.as_str(), line)?)
+        }
+    }
+}
+
+/// The element of a directive that holds a text with inline markup, and the messages on the text.
+fn text_element(
+    found: &Found,
+    parts: Parts,
+    line: usize,
+    literal: bool,
+    text: &str,
+    pass: &mut Pass,
+) -> Result<Texted>
+    ensures read { let read = read_of_directive found.now in
+        Gives (HoldsNodes (marked_text literal read parts line (chars text.now)) pass.old.numbers pass.new.numbers) result }
+    ensures looks { pass.new.looks ≡ pass.old.looks }
+{
+    let alloc = pass.alloc;
+    let element = found.kind.element;
+    let made = with_text(alloc, parts, element, line, text, line, &mut pass.numbers)?;
+    let element = with_options(alloc, made.element, literal, found.options.as_slice())?;
+    Ok(Texted {
+        element,
+        notes: made.notes,
+    })
+}
+
+/// The text of a directive's content: the lines before the options, and those after them.
+fn content_text(
+    alloc: Global,
+    view: &View<'_>,
+    content: Content,
+    looks: &mut Looks,
+) -> Result<String, AllocError>
+    requires { IsContentIn (block_of view.now) content }
+    ensures bytes { IfOk result (λ text. string_bytes text ≡ spelled (meaning.content_lines (block_of view.now) content)) }
+    ensures looked { let most = (content.first.to - content.first.from) + (content.second.to - content.second.from) in
+        IfOk result (λ _. Looked 0 most looks.old looks.new) }
+{
+    let first = inside(view, content.first);
+    let second = inside(view, content.second);
+    if first.len() == 0 {
+        return Ok(joined(alloc, &second, looks)?);
+    }
+    let mut text = joined(alloc, &first, looks)?;
+    if 0 < second.len() {
+        text.push('\n')?;
+        let more = joined(alloc, &second, looks)?;
+        text.push_str(more.as_str())?;
+    }
+    Ok(text)
 }
 
 /// An admonition or a topic: its title, the messages of that, and then its content. The title of an admonition gives its class,
@@ -214,14 +315,16 @@ fn titled_block(
     requires right { IsRight (block_of view.now) level.old.at found.now }
     requires title { IsBlock (block_of view.now) title }
     ensures { let few = title.to - title.from in
-        IsDirectiveRead few (block_of view.now) level.old pass.old found.now (given.title title) level.new pass.new result }
+        IsOpenedRead few (block_of view.now) level.old pass.old found.now (given.title title) level.new pass.new result }
 {
     let line = number_at(view, level.at);
     let lines = inside(view, title);
     let title_line = first_line_or(&lines, line);
+    let parts = parts_at(&lines, 0);
     let text = joined(pass.alloc, &lines, &mut pass.looks)?;
     let title = with_text(
         pass.alloc,
+        parts,
         Tag::Title,
         title_line,
         text.as_str(),
@@ -229,7 +332,8 @@ fn titled_block(
         &mut pass.numbers,
     )?;
     let element = found.kind.element;
-    let node = directive_element(pass.alloc, element, found.options.as_slice(), line)?;
+    let options = found.options.as_slice();
+    let node = directive_element(pass.alloc, element, &found.argument, options, line)?;
     let node = match element {
         Tag::Admonition => with_title_class(pass.alloc, node, &title.element)?,
         _ => node,
@@ -240,28 +344,20 @@ fn titled_block(
     Ok(opened(level, Waits::Element(node), found))
 }
 
-/// A directive without an argument.
-fn plain_block(
-    view: &View<'_>,
-    level: &mut OpenBlock,
-    found: &Found,
-    pass: &mut Pass,
-) -> Result<Step>
+/// A directive that is its content.
+fn plain_block(alloc: Global, view: &View<'_>, level: &mut OpenBlock, found: &Found) -> Result<Step>
     requires { IsRight (block_of view.now) level.old.at found.now }
-    ensures { let few = found.now.content.second.to - found.now.content.second.from in
-        IsDirectiveRead few (block_of view.now) level.old pass.old found.now given.nothing level.new pass.new result }
+    ensures { (pass : Pass) → IsOpenedRead 0 (block_of view.now) level.old pass found.now given.nothing level.new pass result }
 {
-    if found.kind.content == ContentKind::Lines {
-        return code_nodes(view, level, found, None, pass);
-    }
     let line = number_at(view, level.at);
     let element = found.kind.element;
-    let node = directive_element(pass.alloc, element, found.options.as_slice(), line)?;
+    let options = found.options.as_slice();
+    let node = directive_element(alloc, element, &found.argument, options, line)?;
     Ok(opened(level, Waits::Element(node), found))
 }
 
-/// An image, or a figure with this image.
-fn image_block(
+/// A figure with its image.
+fn figure_block(
     alloc: Global,
     view: &View<'_>,
     level: &mut OpenBlock,
@@ -270,23 +366,19 @@ fn image_block(
 ) -> Result<Step>
     requires { IsRight (block_of view.now) level.old.at found.now }
     ensures { (pass : Pass) → let few = found.now.end - level.old.at in
-        IsDirectiveRead few (block_of view.now) level.old pass found.now (given.uri (chars uri.now)) level.new pass result }
+        IsOpenedRead few (block_of view.now) level.old pass found.now (given.uri (chars uri.now)) level.new pass result }
 {
-    let at = level.at;
-    let line = number_at(view, at);
+    let start = level.at;
+    let line = number_at(view, start);
     let options = found.options.as_slice();
-    if found.kind.content == ContentKind::Caption {
-        let image_node = image(alloc, uri, options, line, true, None)?;
-        let figure = filled(figure(alloc, options, line)?, alone(alloc, image_node)?)?;
-        let waits = Waits::Figure {
-            figure,
-            start: at,
-            end: found.end,
-        };
-        return Ok(opened(level, waits, found));
-    }
-    let node = image(alloc, uri, options, line, false, None)?;
-    put(level, node, found.end)
+    let image_node = image(alloc, uri, options, line, true, None)?;
+    let figure = filled(figure(alloc, options, line)?, alone(alloc, image_node)?)?;
+    let waits = Waits::Figure {
+        figure,
+        start,
+        end: found.end,
+    };
+    Ok(opened(level, waits, found))
 }
 
 /// Opens the content of a directive, for whose nodes its block waits.
@@ -302,27 +394,4 @@ fn opened(level: &mut OpenBlock, waits: Waits, found: &Found) -> Step
         first: found.content.first,
         second: Some(found.content.second),
     }
-}
-
-/// Program code in a language or in none.
-fn code_nodes(
-    view: &View<'_>,
-    level: &mut OpenBlock,
-    found: &Found,
-    language: Option<&str>,
-    pass: &mut Pass,
-) -> Result<Step>
-    requires { IsRight (block_of view.now) level.old.at found.now }
-    ensures { let B = block_of view.now in
-        let line = first_number (drop level.old.at B) in
-        let nodes = meaning.code_nodes B line (read_of_directive found.now) (option_map (λ word. word.now) language.entry) in
-        let few = found.now.content.second.to - found.now.content.second.from in
-        IsPartRead few B level.old pass.old (just nodes) [] found.now.end level.new pass.new result }
-{
-    let alloc = pass.alloc;
-    let line = number_at(view, level.at);
-    let text = joined(alloc, &inside(view, found.content.second), &mut pass.looks)?;
-    let options = found.options.as_slice();
-    let node = code_block(alloc, language, options, text.as_str(), line)?;
-    put(level, node, found.end)
 }

@@ -1,6 +1,6 @@
 //! Explicit markup blocks (Markup Specification, 'Explicit Markup Blocks').
 ghost use Rattle.std.specs.Prelude.{◌≡◌, ◌+◌, ◌-◌, ◌*◌, ◌<◌, ◌≤◌, [], ◌∷◌, length, drop, string_bytes, option_map, IfOk, IsTrue};
-ghost use Rattle.rst_text.specs.Block.{first_number, first_text};
+ghost use Rattle.rst_text.specs.Block.{first_number, first_text, first_parts};
 ghost use Rattle.rst_text.specs.Looked.{capped};
 ghost use Rattle.rst_text.specs.ViewBlock.{block_of};
 ghost use Rattle.rst_markup_blocks.specs.Parts.{IsBlock};
@@ -26,7 +26,7 @@ use super::directive::directive_block;
 use super::substitution::substitution_definition;
 use rst_block_nodes::{citation, footnote, message, preserved, target};
 use rst_block_state::{
-    OpenBlock, Pass, Result, Run, Step, Waits, excerpt, inside, joined, number_at,
+    OpenBlock, Pass, Result, Run, Step, Waits, excerpt, inside, joined, number_at, parts_at,
 };
 use rst_markup_blocks::{CommentCause, Explicit, Part, explicit};
 use rst_markup_lines::{Characters, LabelKind};
@@ -155,18 +155,19 @@ fn target_block(
     requires later { level.old.at < text.to }
     ensures { let B = block_of view.now in
         let X = drop level.old.at B in
-        let node = target_node (option_map (excerpt (first_text X)) name) (spelled (lines_in B text)) (first_number X) in
+        let node = target_node (first_parts X).mail (option_map (excerpt (first_text X)) name) (spelled (lines_in B text)) (first_number X) in
         IsPartRead (1 + (text.to - text.from)) B level.old pass.old (just (node ∷ [])) [] text.to level.new pass.new result }
 {
     let alloc = pass.alloc;
     let lines = joined(alloc, &inside(view, text), &mut pass.looks)?;
     let line = number_at(view, level.at);
+    let mail = parts_at(view, level.at).mail;
     let element = match name {
         Some(name) => {
             let name = excerpt(alloc, view.line(level.at, &mut pass.looks), name)?;
-            target(alloc, Some(name.as_str()), lines.as_str(), line)?
+            target(alloc, mail, Some(name.as_str()), lines.as_str(), line)?
         }
-        None => target(alloc, None, lines.as_str(), line)?,
+        None => target(alloc, mail, None, lines.as_str(), line)?,
     };
     put(level, element, text.to)
 }

@@ -1,34 +1,30 @@
 //! Substitution definitions (Markup Specification, 'Substitution Definitions').
-ghost use Rattle.std.specs.Prelude.{◌≡◌, ◌-◌, ◌*◌, ◌<◌, ◌≤◌, ◌∷◌, [], false, Some, length, drop, string_bytes, IfOk, IfSome};
+ghost use Rattle.std.specs.Prelude.{◌≡◌, ◌-◌, ◌*◌, ◌<◌, ◌≤◌, ◌+◌, ◌∷◌, [], length, drop, string_bytes, IfOk, IfSome};
 ghost use Rattle.rst_text.specs.Block.{first_number, first_text};
 ghost use Rattle.rst_text.specs.ViewBlock.{block_of};
 ghost use Rattle.rst_tree.specs.Nodes.{nodes_of};
 ghost use Rattle.rst_tree.specs.declared.note.Level.TheVariants.{Error};
-ghost use Rattle.rst_markup_directives.specs.Options.{choices_in};
 ghost use Rattle.rst_markup_directives.specs.declared.found.Place.TheVariants.{Substitution};
-ghost use Rattle.rst_block_nodes.specs.Elements.{substitution_definition_node};
-ghost use Rattle.rst_block_nodes.specs.Options.{image_element};
-ghost use Rattle.rst_markup_directives.specs.Call.{IsContentIn};
+ghost use Rattle.rst_markup_directives.specs.Call.{IsArgumentIn, IsContentIn};
 ghost use Rattle.rst_markup_blocks.specs.Parts.{IsCall};
-ghost use Rattle.rst_block_nodes.specs.Sections.{filled};
 ghost use Rattle.rst_block_state.specs.Directives as directives;
-ghost use Rattle.rst_block_markup.specs.MarkupSteps.{IsPartRead, made_of_content};
+ghost use Rattle.rst_block_markup.specs.MarkupSteps.{IsPartRead, IsRight, made_of_content, read_of_directive, text_lines};
 ghost use Rattle.rst_block_state.specs.machine.Meanings.{within_at};
 ghost use Rattle.rst_block_state.specs.machine.OpenBlocks as blocks;
 ghost use Rattle.rst_block_state.specs.Texts as texts;
 ghost use Rattle.rst_block_state.specs.looks.Ledger.{unread_at};
-ghost use Rattle.rst_block_state.specs.Inside.{content_blocks, definition_blocks, substitution_blocks};
+ghost use Rattle.rst_block_state.specs.Inside.{content_blocks, directive_blocks, directive_content, substitution_blocks};
 
-use super::directive::{directive_at, wrong_directive};
+use super::directive::{Found, closed_element, directive_at, wrong_directive};
 use super::explicit::put;
 use rst_block_nodes::{
-    filled, image, may_replace, message, substitution_definition as definition, substitution_name,
+    filled, may_replace, message, substitution_definition as definition, substitution_name,
 };
 use rst_block_state::{
     OpenBlock, OpenReplacement, Pass, Result, Step, Waits, alone, excerpt, number_at, source,
 };
 use rst_markup_blocks::Invocation;
-use rst_markup_directives::{Argument, Content, Directive, DirectiveFault, Place, Setting};
+use rst_markup_directives::{Content, Directive, DirectiveFault, Place};
 use rst_text::View;
 use rst_tree::{Children, Level, Node, Tag};
 use rst_tree_index::MarkedNodes;
@@ -99,7 +95,7 @@ fn definition_or_error(
         let written = texts.excerpt (first_text (drop level.old.at B)) invocation.now.name in
         let nodes = directives.definition_or_error outcome within B (record { start = level.old.at; stop = end }) (string_bytes name) written in
         let few = 18 * (end - level.old.at) in
-        IsPartRead few B level.old pass.old nodes (definition_blocks outcome B) end level.new pass.new result }
+        IsPartRead few B level.old pass.old nodes (directive_blocks outcome B) end level.new pass.new result }
 {
     let at = level.at;
     let line = number_at(view, at);
@@ -123,40 +119,53 @@ fn definition_or_error(
             put(level, error, end)
         }
         Directive::Found {
+            kind,
             argument,
             options,
             content,
-            ..
-        } => match argument {
-            Argument::Uri(uri) => {
-                let image_node = image_named(
-                    pass.alloc,
-                    uri.as_str(),
-                    &options,
-                    name.as_str(),
-                    line,
-                )?;
-                put(level, image_node, end)
-            }
-            _ => replacement(view, level, name, content, end, pass),
-        },
+        } => {
+            let found = Found {
+                kind,
+                argument,
+                options,
+                content,
+                end,
+            };
+            definition_of(view, level, name, &found, pass)
+        }
     }
 }
 
-/// A substitution definition that holds an image, which it names unless the image has a text of its own.
-fn image_named(
-    alloc: Global,
-    uri: &str,
-    options: &Vec<Setting>,
-    name: &str,
-    line: usize,
-) -> Result<Node, AllocError>
-    ensures { let image_node = image_element uri.now (choices_in options.now.items) line false (Some name.now) in
-        IfOk result (λ node. node ≡ filled (substitution_definition_node name.now line) (image_node ∷ [])) }
+/// A substitution definition that holds a right directive.
+fn definition_of(
+    view: &View<'_>,
+    level: &mut OpenBlock,
+    name: String,
+    found: &Found,
+    pass: &mut Pass,
+) -> Result<Step>
+    requires right { IsRight (block_of view.now) level.old.at found.now }
+    requires argument { IsArgumentIn (block_of view.now) found.now.argument }
+    ensures { let B = block_of view.now in
+        let line = first_number (drop level.old.at B) in
+        let source = texts.span_source B (record { start = level.old.at; stop = found.now.end }) in
+        let nodes = directives.definition_nodes (within_at level.old.depth) B line (string_bytes name) (read_of_directive found.now) source in
+        let few = text_lines found.now + (found.now.end - level.old.at) in
+        IsPartRead few B level.old pass.old nodes (directive_content found.now.kind.content B found.now.content) found.now.end level.new pass.new result }
 {
-    let image_node = image(alloc, uri, options.as_slice(), line, false, Some(name))?;
+    if found.kind.content.has_blocks() {
+        return replacement(view, level, name, found.content, found.end, pass);
+    }
+    let line = number_at(view, level.at);
+    let name = name.as_str();
+    let alloc = pass.alloc;
+    let element = closed_element(alloc, view, line, found, Some(name), &mut pass.looks)?;
     let definition = definition(alloc, name, line)?;
-    filled(definition, alone(alloc, image_node)?)
+    put(
+        level,
+        filled(definition, alone(alloc, element)?)?,
+        found.end,
+    )
 }
 
 /// Opens a replacement text.

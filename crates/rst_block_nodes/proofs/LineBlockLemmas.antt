@@ -119,7 +119,7 @@ one_refused levels least line now number left following nodes notes p part read 
 
 -- a line was made
 pub one_line : (levels now next least line : ℕ) (left following : List IndentedLine) (nodes notes nodes_then notes_then : List Node) (l : IndentedLine) (m : Texted)
-    → deeper_len least left ≡ 0 → left ≡ l ∷ following → texted Line l.line l.text l.text_line now ≡ Ok ((m.element, m.notes.items), next)
+    → deeper_len least left ≡ 0 → left ≡ l ∷ following → texted l.parts Line l.line l.text l.text_line now ≡ Ok ((m.element, m.notes.items), next)
     → nodes_then ≡ nodes ++ m.element ∷ [] → notes_then ≡ notes ++ m.notes.items
     → block_after levels least line nodes_then notes_then following next ≡ block_after levels least line nodes notes left now
 one_line levels now next least line left following nodes notes nodes_then notes_then l m none here read put noted =

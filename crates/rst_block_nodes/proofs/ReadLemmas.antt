@@ -1,5 +1,6 @@
 -- The heads of a text that was read.
 use Rattle.std.proofs.Common.{◌≡◌, ℕ, List, Option, length, ap, subst, ◌∙◌}
+use Rattle.rst_settings.specs.declared.Parts.{Parts}
 use Rattle.rst_tree.specs.declared.node.Node.{Node}
 use Rattle.rst_inline_scan.specs.Pieces.{IsPieces}
 use Rattle.rst_inline_scan.specs.declared.piece.Piece.{Piece}
@@ -10,11 +11,11 @@ use Rattle.rst_block_nodes.specs.Terms.{parts_of_pieces, groups_of, heads_of}
 use Rattle.rst_block_nodes.specs.Texts.{messages_from}
 use Rattle.rst_block_nodes.specs.declared.terms.Heads.{Heads}
 
-pub headed_text : (text cs ds : List ℕ) (line first notes : ℕ) (pieces qs : List Piece) (reading : Pieces) (texts : List (List (Option Node))) (nodes : List Node) (made : Heads) → cs ≡ text → ds ≡ text → qs ≡ pieces → IsPieces cs 0 pieces → IsRead text line first reading → texts ≡ parts_of_pieces ds qs → notes ≡ length made.notes.items → nodes ≡ reading.nodes.items → made.heads.items ≡ heads_of notes line (groups_of texts nodes) → made.notes.items ≡ messages_from first reading.notes.items → HeadsText text line first made
-headed_text text cs ds line first notes pieces qs reading texts nodes made same alike listed are read those many all heads messages = (
+pub headed_text : (parts : Parts) (text cs ds : List ℕ) (line first notes : ℕ) (pieces qs : List Piece) (reading : Pieces) (texts : List (List (Option Node))) (nodes : List Node) (made : Heads) → cs ≡ text → ds ≡ text → qs ≡ pieces → IsPieces parts.mail cs 0 pieces → IsRead parts text line first reading → texts ≡ parts_of_pieces ds qs → notes ≡ length made.notes.items → nodes ≡ reading.nodes.items → made.heads.items ≡ heads_of notes line (groups_of texts nodes) → made.notes.items ≡ messages_from first reading.notes.items → HeadsText parts text line first made
+headed_text parts text cs ds line first notes pieces qs reading texts nodes made same alike listed are read those many all heads messages = (
   pieces,
   reading,
-  subst (λ t. IsPieces t 0 pieces) same are,
+  subst (λ t. IsPieces parts.mail t 0 pieces) same are,
   read,
   record {
     heads = heads ∙ ap (λ n. heads_of n line (groups_of texts nodes)) many

@@ -1,5 +1,6 @@
 -- What is read of a text is what the functions of the text give.
 use Rattle.std.proofs.Common.{◌≡◌, ℕ, List, length, Ok, ap, ap₂, sym, ◌∙◌}
+use Rattle.rst_settings.specs.declared.Parts.{Parts}
 use Rattle.rst_inline_scan.specs.Reading.{pieces_of}
 use Rattle.rst_inline_scan.specs.declared.piece.Piece.{Piece}
 use Rattle.rst_inline_scan.proofs.ReadingLemmas.{pieces_of-only}
@@ -16,45 +17,45 @@ use Rattle.rst_block_nodes.specs.Results.{HoldsText, HeadsText}
 use Rattle.rst_block_nodes.specs.Terms.{parts_of_pieces, groups_of, heads_of}
 use Rattle.rst_block_nodes.specs.Texts.{counting, messages_from}
 
-reading_is : (t : List ℕ) (line first : ℕ) (r : Pieces) → IsRead t line first r → (r.nodes.items ≡ read_nodes t line first) × (messages_from first r.notes.items ≡ read_notes t line first)
-reading_is t line first r h =
-    let same : h.0 ≡ pieces_of t = pieces_of-only t h.0 h.1 in (
-      h.2.nodes ∙ ap (nodes_from t line first) same,
-      ap (messages_from first) (h.2.notes ∙ ap (notes_of t line) same),
+reading_is : (parts : Parts) (t : List ℕ) (line first : ℕ) (r : Pieces) → IsRead parts t line first r → (r.nodes.items ≡ read_nodes parts t line first) × (messages_from first r.notes.items ≡ read_notes parts t line first)
+reading_is parts t line first r h =
+    let same : h.0 ≡ pieces_of parts.mail t = pieces_of-only parts.mail t h.0 h.1 in (
+      h.2.nodes ∙ ap (nodes_from parts t line first) same,
+      ap (messages_from first) (h.2.notes ∙ ap (notes_of parts t line) same),
     )
 
-pub texted-is : (tag : Tag) (line : ℕ) (t : List ℕ) (text_line first : ℕ) (made : Texted) → HoldsText tag line t text_line first made
-    → (made.element ≡ texted_node tag line t text_line first) × (made.notes.items ≡ read_notes t text_line first)
-texted-is tag line t text_line first made h =
-    let r = reading_is t text_line first h.0 h.1 in (
+pub texted-is : (parts : Parts) (tag : Tag) (line : ℕ) (t : List ℕ) (text_line first : ℕ) (made : Texted) → HoldsText parts tag line t text_line first made
+    → (made.element ≡ texted_node parts tag line t text_line first) × (made.notes.items ≡ read_notes parts t text_line first)
+texted-is parts tag line t text_line first made h =
+    let r = reading_is parts t text_line first h.0 h.1 in (
       h.2.element
           ∙ ap (λ (ns : List Node). element_of tag (counting (length ns)) h.0.nodes.items line) (h.2.notes ∙ r.1)
-          ∙ ap (λ (xs : List Node). element_of tag (counting (length (read_notes t text_line first))) xs line) r.0,
+          ∙ ap (λ (xs : List Node). element_of tag (counting (length (read_notes parts t text_line first))) xs line) r.0,
       h.2.notes ∙ r.1,
     )
 
-pub termed-is : (t : List ℕ) (line first : ℕ) (made : Heads) → HeadsText t line first made
-    → (made.heads.items ≡ term_nodes t line first) × (made.notes.items ≡ read_notes t line first)
-termed-is t line first made h =
-    let r = reading_is t line first h.1 h.3 in (
+pub termed-is : (parts : Parts) (t : List ℕ) (line first : ℕ) (made : Heads) → HeadsText parts t line first made
+    → (made.heads.items ≡ term_nodes parts t line first) × (made.notes.items ≡ read_notes parts t line first)
+termed-is parts t line first made h =
+    let r = reading_is parts t line first h.1 h.3 in (
       h.4.heads
           ∙ ap (λ (ns : List Node). heads_of (length ns) line (groups_of (parts_of_pieces t h.0) h.1.nodes.items)) (h.4.notes ∙ r.1)
-          ∙ ap (λ (xs : List Node). heads_of (length (read_notes t line first)) line (groups_of (parts_of_pieces t h.0) xs)) r.0
-          ∙ ap (λ (ps : List Piece). heads_of (length (read_notes t line first)) line (groups_of (parts_of_pieces t ps) (read_nodes t line first))) (pieces_of-only t h.0 h.2),
+          ∙ ap (λ (xs : List Node). heads_of (length (read_notes parts t line first)) line (groups_of (parts_of_pieces t h.0) xs)) r.0
+          ∙ ap (λ (ps : List Piece). heads_of (length (read_notes parts t line first)) line (groups_of (parts_of_pieces t ps) (read_nodes parts t line first))) (pieces_of-only parts.mail t h.0 h.2),
       h.4.notes ∙ r.1,
     )
 
 -- the same with the number of the next message
-pub texted_read : (tag : Tag) (line : ℕ) (t : List ℕ) (text_line first next : ℕ) (made : Texted) → HoldsText tag line t text_line first made → next ≡ counted_on first (length made.notes.items)
-    → texted tag line t text_line first ≡ Ok ((made.element, made.notes.items), next)
-texted_read tag line t text_line first next made h counted =
-    let is = texted-is tag line t text_line first made h in
+pub texted_read : (parts : Parts) (tag : Tag) (line : ℕ) (t : List ℕ) (text_line first next : ℕ) (made : Texted) → HoldsText parts tag line t text_line first made → next ≡ counted_on first (length made.notes.items)
+    → texted parts tag line t text_line first ≡ Ok ((made.element, made.notes.items), next)
+texted_read parts tag line t text_line first next made h counted =
+    let is = texted-is parts tag line t text_line first made h in
     ap₂ (λ (e : Node) (ns : List Node). Ok ((e, ns), counted_on first (length ns))) (sym is.0) (sym is.1)
     ∙ ap (λ (n : ℕ). Ok ((made.element, made.notes.items), n)) (sym counted)
 
-pub termed_read : (t : List ℕ) (line first next : ℕ) (made : Heads) → HeadsText t line first made → next ≡ counted_on first (length made.notes.items)
-    → termed t line first ≡ Ok ((made.heads.items, made.notes.items), next)
-termed_read t line first next made h counted =
-    let is = termed-is t line first made h in
+pub termed_read : (parts : Parts) (t : List ℕ) (line first next : ℕ) (made : Heads) → HeadsText parts t line first made → next ≡ counted_on first (length made.notes.items)
+    → termed parts t line first ≡ Ok ((made.heads.items, made.notes.items), next)
+termed_read parts t line first next made h counted =
+    let is = termed-is parts t line first made h in
     ap₂ (λ (es ns : List Node). Ok ((es, ns), counted_on first (length ns))) (sym is.0) (sym is.1)
     ∙ ap (λ (n : ℕ). Ok ((made.heads.items, made.notes.items), n)) (sym counted)

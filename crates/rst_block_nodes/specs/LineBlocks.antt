@@ -2,6 +2,7 @@
 use Rattle.std.specs.Prelude.{◌≡◌, ℕ, zero, suc, min, List, [], ◌∷◌, map, unwrap_or, nat_lt, if◌then◌else◌, Result, Ok, Err, string_bytes}
 use Rattle.std.specs.List.{reduce, prefix_len, flat_map}
 use Rattle.std.specs.Str.{chars}
+use Rattle.rst_settings.specs.declared.Parts.{Parts}
 use Rattle.rst_tree.specs.declared.node.Node.{Node}
 use Rattle.rst_tree.specs.declared.tag.Tag.TheVariants.{Line, LineBlock}
 use Rattle.rst_block_nodes.specs.declared.line_blocks.BarText.{BarText}
@@ -14,12 +15,14 @@ use Rattle.rst_block_nodes.specs.Readings.{texted}
 
 -- ---- lines
 
--- a line of a line block: its indentation, its number, the number of the line in which its text begins, and its text
+-- a line of a line block: its indentation, its number, the number of the line in which its text begins, and its text, in which e-mail addresses
+-- may be asked for
 pub record IndentedLine : Type 0 where
   pub indent : ℕ
   pub line : ℕ
   pub text_line : ℕ
   pub text : List ℕ
+  pub parts : Parts
 
 -- the least indentation of lines, 0 where there is none
 abbrev pub least_indent : List IndentedLine → ℕ
@@ -50,7 +53,7 @@ line_parts least (l ∷ ls) = if nat_lt least l.indent then with_deeper l (line_
 
 -- what a part gives: a line its element and the messages on its text, deeper lines a line block inside
 abbrev pub part_node : (List IndentedLine → Numbered (Node × List Node)) → LinePart → Numbered (Node × List Node)
-part_node inner (level_line l) = texted Line l.line l.text l.text_line
+part_node inner (level_line l) = texted l.parts Line l.line l.text l.text_line
 part_node inner (deeper_lines ls) = inner ls
 
 -- The line block of some lines, and the messages on all their texts, where this many line blocks may be nested, the outermost included. One that
@@ -69,7 +72,7 @@ deeper_len least ls = prefix_len (λ (l : IndentedLine). nat_lt least l.indent) 
 
 -- a line with this indentation
 abbrev pub indented_by : ℕ → BarText → IndentedLine
-indented_by indent bar = record { indent = indent; line = bar.line; text_line = bar.text_line; text = chars (string_bytes bar.text) }
+indented_by indent bar = record { indent = indent; line = bar.line; text_line = bar.text_line; text = chars (string_bytes bar.text); parts = bar.parts }
 
 -- lines after one of this indentation: a line without text after its bar takes the indentation of the line before it
 abbrev pub indented_from : ℕ → List BarText → List IndentedLine

@@ -1,5 +1,6 @@
--- What the options of directives do to elements (Directives, 'Common Options', 'Image', 'Figure', 'Code').
-use Rattle.std.specs.Prelude.{ℕ, Bool, if◌then◌else◌, List, [], ◌∷◌, ◌++◌, map, codes, Option, Some, None, encode_utf8_all}
+-- What the options of directives do to elements (Directives, 'Common Options', 'Image', 'Figure', 'Code', 'Rubric', 'Parsed
+-- Literal Block', 'Raw Data Pass-Through', 'Container').
+use Rattle.std.specs.Prelude.{ℕ, Bool, if◌then◌else◌, List, [], ◌∷◌, ◌++◌, map, codes, Option, Some, None, option_map, encode_utf8_all}
 use Rattle.std.specs.Option.{option_or, option_to_list}
 use Rattle.rst_text.specs.Names.{name_of, normalized_white}
 use Rattle.rst_tree.specs.Attributes.{attr, value_of, with_attr, without_key}
@@ -8,11 +9,12 @@ use Rattle.rst_tree.specs.declared.attrs.Attr.{Attr}
 use Rattle.rst_tree.specs.declared.attrs.Value.{Value}
 use Rattle.rst_tree.specs.declared.attrs.Value.TheVariants.{Text as TextValue, Number, List as Listed}
 use Rattle.rst_tree.specs.declared.key.Key.{Key}
-use Rattle.rst_tree.specs.declared.key.Key.TheVariants.{Align, Alt, Classes, Height, Name, OwnName, Rawsource, Refname, Refuri, Scale, Uri, Width}
+use Rattle.rst_tree.specs.declared.key.Key.TheVariants.{Align, Alt, Classes, Format, Height, Name, OwnName, Rawsource, Refname, Refuri, Scale, Uri, Width, XmlSpace}
 use Rattle.rst_tree.specs.declared.node.Node.{Node}
-use Rattle.rst_tree.specs.declared.node.Node.TheVariants.{Element}
+use Rattle.rst_tree.specs.declared.node.Node.TheVariants.{Element, Text as Words}
 use Rattle.rst_tree.specs.declared.tag.Tag.{Tag}
-use Rattle.rst_tree.specs.declared.tag.Tag.TheVariants.{Figure as FigureTag, Image as ImageTag, LiteralBlock, Reference}
+use Rattle.rst_tree.specs.declared.tag.Tag.TheVariants.{Figure as FigureTag, Image as ImageTag, Reference}
+use Rattle.rst_markup_directives.specs.Argument.{ArgumentMeaning, language, formats, classes}
 use Rattle.rst_markup_directives.specs.Options.{OptionSetting}
 use Rattle.rst_markup_directives.specs.Target.{Destination, named, located}
 use Rattle.rst_markup_directives.specs.Value.{Meaning, plain, measured, numbered, placed, classed, linked, called}
@@ -71,6 +73,28 @@ abbrev pub with_choices : Holder → List OptionSetting → List Attr → List A
 with_choices holder [] attrs = attrs
 with_choices holder (ch ∷ more) attrs = with_choices holder more (with_value_at (option_key holder ch.0) (value_meant ch.1) attrs)
 
+-- attributes with those that the options of a directive give which isn't a figure or an image
+abbrev pub body_attrs : List OptionSetting → List Attr → List Attr
+body_attrs choices attrs = with_choices Body choices attrs
+
+-- ---- arguments as attributes
+
+-- `code`, the language, and then the classes of the options
+abbrev pub code_classes : Option (List ℕ) → Option Value → Value
+code_classes word (Some (Listed more)) = Listed (codes "code" ∷ option_to_list word ++ more)
+code_classes word _ = Listed (codes "code" ∷ option_to_list word)
+
+-- attributes with the classes of program code in a language
+abbrev pub code_attrs : Option (List ℕ) → List Attr → List Attr
+code_attrs word attrs = with_attr Classes (code_classes word (value_of Classes attrs)) (without_key Classes attrs)
+
+-- attributes with those that the argument of a directive gives: the language of program code, the formats of raw data, or class names
+abbrev pub given_attrs : ArgumentMeaning → List Attr → List Attr
+given_attrs (language word) attrs = code_attrs (option_map encode_utf8_all word) attrs
+given_attrs (formats text) attrs = with_attr Format (TextValue (encode_utf8_all text)) attrs
+given_attrs (classes text (Some ids)) attrs = with_attr Classes (Listed (map encode_utf8_all ids)) attrs
+given_attrs _ attrs = attrs
+
 -- ---- figures, admonitions and topics
 
 -- a figure, still without content
@@ -78,23 +102,19 @@ abbrev pub figure_element : List OptionSetting → ℕ → Node
 figure_element choices line = Element FigureTag (with_choices Figure choices []) bare line
 
 -- the element of a directive with a body, still without content
-abbrev pub directive_element : Tag → List OptionSetting → ℕ → Node
-directive_element element choices line = Element element (with_choices Body choices []) bare line
+abbrev pub directive_element : Tag → ArgumentMeaning → List OptionSetting → ℕ → Node
+directive_element element given choices line = Element element (given_attrs given (body_attrs choices [])) bare line
 
--- ---- program code
+-- ---- texts
 
--- `code`, the language, and then the classes of the options
-abbrev pub code_classes : Option (List ℕ) → Option Value → Value
-code_classes language (Some (Listed more)) = Listed (codes "code" ∷ option_to_list language ++ more)
-code_classes language _ = Listed (codes "code" ∷ option_to_list language)
+-- a directive whose content is a text without inline markup
+abbrev pub literal_element : Tag → ArgumentMeaning → List OptionSetting → List ℕ → ℕ → Node
+literal_element element given choices text line = element_of element (given_attrs given (body_attrs choices preserving)) (text_nodes text) line
 
--- attributes with the classes of program code in a language
-abbrev pub code_attrs : Option (List ℕ) → List Attr → List Attr
-code_attrs language attrs = with_attr Classes (code_classes language (value_of Classes attrs)) (without_key Classes attrs)
-
--- program code, in a language if one is given: a literal block
-abbrev pub code_element : Option (List ℕ) → List OptionSetting → List ℕ → ℕ → Node
-code_element language choices text line = element_of LiteralBlock (code_attrs language (with_choices Body choices preserving)) (text_nodes text) line
+-- an element that holds the text of a directive, with the attributes that its options give; white characters stay where `literal` is true
+abbrev pub with_options : Bool → List OptionSetting → Node → Node
+with_options literal choices (Element t a c l) = Element t (body_attrs choices (if literal then with_attr XmlSpace (TextValue (codes "preserve")) a else a)) c l
+with_options literal choices (Words t) = Words t
 
 -- ---- images
 

@@ -1,5 +1,6 @@
 -- What the reading of a text gives (Markup Specification, 'Inline Markup').
 use Rattle.std.specs.Prelude.{◌≡◌, ℕ, List, length}
+use Rattle.rst_settings.specs.declared.Parts.{Parts}
 use Rattle.rst_tree.specs.declared.tag.Tag.{Tag}
 use Rattle.rst_inline_scan.specs.Pieces.{IsPieces}
 use Rattle.rst_inline_scan.specs.declared.piece.Piece.{Piece}
@@ -17,8 +18,8 @@ pub record IsHolding (tag : Tag) (line first : ℕ) (read : Pieces) (texted : Te
   pub notes : texted.notes.items ≡ messages_from first read.notes.items
 
 -- those of a text
-abbrev pub HoldsText : Tag → ℕ → List ℕ → ℕ → ℕ → Texted → Type 0
-HoldsText tag line text text_line first texted = (read : Pieces) × IsRead text text_line first read × IsHolding tag line first read texted
+abbrev pub HoldsText : Parts → Tag → ℕ → List ℕ → ℕ → ℕ → Texted → Type 0
+HoldsText parts tag line text text_line first texted = (read : Pieces) × IsRead parts text text_line first read × IsHolding tag line first read texted
 
 -- the heads of the nodes that were read, whose texts are those of the pieces of a text, and the messages
 pub record AreHeadsOf (text : List ℕ) (pieces : List Piece) (line first : ℕ) (read : Pieces) (made : Heads) : Type 0 where
@@ -26,5 +27,5 @@ pub record AreHeadsOf (text : List ℕ) (pieces : List Piece) (line first : ℕ)
   pub notes : made.notes.items ≡ messages_from first read.notes.items
 
 -- those of a text, whose pieces are exactly one list
-abbrev pub HeadsText : List ℕ → ℕ → ℕ → Heads → Type 0
-HeadsText text line first made = (pieces : List Piece) × (read : Pieces) × IsPieces text 0 pieces × IsRead text line first read × AreHeadsOf text pieces line first read made
+abbrev pub HeadsText : Parts → List ℕ → ℕ → ℕ → Heads → Type 0
+HeadsText parts text line first made = (pieces : List Piece) × (read : Pieces) × IsPieces parts.mail text 0 pieces × IsRead parts text line first read × AreHeadsOf text pieces line first read made

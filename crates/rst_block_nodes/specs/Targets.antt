@@ -14,9 +14,10 @@ use Rattle.rst_tree.specs.declared.key.Key.TheVariants.{Anonymous, OwnName, Refn
 use Rattle.rst_tree.specs.declared.node.Node.{Node}
 use Rattle.rst_tree.specs.declared.node.Node.TheVariants.{Element, Text as Words}
 use Rattle.rst_tree.specs.declared.tag.Tag.{Tag}
-use Rattle.rst_tree.specs.declared.tag.Tag.TheVariants.{Emphasis, Strong, Literal, Subscript, Superscript, TitleReference, SubstitutionReference, Reference, Target}
+use Rattle.rst_tree.specs.declared.tag.Tag.TheVariants.{Abbreviation, Acronym, Emphasis, Strong, Literal, Math, Subscript, Superscript, TitleReference, SubstitutionReference, Reference, Target}
 use Rattle.rst_tree_index.specs.Kinds.{is_substitution_reference_node}
 use Rattle.rst_markup_directives.specs.Target.{Destination, named, located, target_value}
+use Rattle.rst_inline.specs.Mail.{mailed}
 use Rattle.rst_block_nodes.specs.Values.{unescaped}
 
 -- ---- targets
@@ -27,22 +28,25 @@ name_attrs (Some written) = attr OwnName (TextValue (name_in (unescaped written)
 name_attrs None = attr Anonymous (Number 1) ∷ []
 
 -- with what the target leads to
-abbrev pub leading_attrs : List Attr → Option Destination → List Attr
-leading_attrs attrs (Some (named name)) = with_attr Refname (TextValue (encode_utf8_all (name_of name))) attrs
-leading_attrs attrs (Some (located uri)) = with_attr Refuri (TextValue (encode_utf8_all uri)) attrs
-leading_attrs attrs None = attrs
+abbrev pub leading_attrs : Bool → List Attr → Option Destination → List Attr
+leading_attrs mail attrs (Some (named name)) = with_attr Refname (TextValue (encode_utf8_all (name_of name))) attrs
+leading_attrs mail attrs (Some (located uri)) = with_attr Refuri (TextValue (encode_utf8_all (mailed mail uri))) attrs
+leading_attrs mail attrs None = attrs
 
 -- the target of a name, or an anonymous one, with what its text leads to
-abbrev pub target_node : Option (List ℕ) → List ℕ → ℕ → Node
-target_node name text line = Element Target (leading_attrs (name_attrs name) (target_value (chars text))) bare line
+abbrev pub target_node : Bool → Option (List ℕ) → List ℕ → ℕ → Node
+target_node mail name text line = Element Target (leading_attrs mail (name_attrs name) (target_value (chars text))) bare line
 
 -- ---- replacement texts
 
 -- elements of this kind are allowed there, whatever they contain
 abbrev pub is_plain_role : Tag → Bool
+is_plain_role Abbreviation = true
+is_plain_role Acronym = true
 is_plain_role Emphasis = true
 is_plain_role Strong = true
 is_plain_role Literal = true
+is_plain_role Math = true
 is_plain_role Subscript = true
 is_plain_role Superscript = true
 is_plain_role TitleReference = true

@@ -1,30 +1,34 @@
-//! Admonitions, topics and program code.
+//! Admonitions, topics, containers, program code and other texts.
 ghost use Rattle.std.specs.Prelude.{◌≡◌, option_map, IfOk};
 ghost use Rattle.rst_block_nodes.specs.Admonitions.{title_class, with_title_class};
+ghost use Rattle.rst_markup_directives.specs.Argument.{given_in};
 ghost use Rattle.rst_markup_directives.specs.Options.{choices_in};
-ghost use Rattle.rst_block_nodes.specs.Options.{directive_element, code_element};
+ghost use Rattle.rst_block_nodes.specs.Options.{code_attrs, directive_element, given_attrs, literal_element, with_options};
 
 use super::nodes::{element_of, preserving, text_nodes};
 use super::settings::{Holder, set_options};
-use rst_markup_directives::Setting;
+use super::values::{list_of_texts, text_value};
+use rst_markup_directives::{Argument, Setting};
 use rst_text::id_of;
 use rst_tree::{Attrs, Key, Node, Result, Tag, Text, Texts, Value};
 use std::alloc::Global;
 
-/// The element of a directive with a body, with the classes and the name of its options, without title and content
+/// The element of a directive with a body, with what its argument and its options give, without title and content
 /// (Docutils, Directives, 'Admonitions').
 ///
 /// The only refusal is [`AllocError`].
 pub fn directive_element(
     alloc: Global,
     element: Tag,
+    argument: &Argument,
     options: &[Setting],
     line: usize,
 ) -> Result<Node>
-    ensures { IfOk result (λ node. node ≡ directive_element element (choices_in options.now) line) }
+    ensures { IfOk result (λ node. node ≡ directive_element element (given_in argument.now) (choices_in options.now) line) }
 {
     let mut attrs = Attrs::new(alloc);
     set_options(alloc, &mut attrs, Holder::Body, options)?;
+    set_argument(alloc, &mut attrs, argument)?;
     Ok(element_of(element, attrs, Vec::new(alloc), line))
 }
 
@@ -57,21 +61,48 @@ fn title_class(alloc: Global, title: &Node) -> Result<Value>
     Ok(Value::List(classes))
 }
 
-/// Program code in a language, if one is named, with its text (Docutils, Directives, 'Code'). The classes are `code`, the
-/// language as it is written, and those of the options.
+/// A directive whose content is a text without inline markup (Docutils, Directives, 'Code', 'Raw Data Pass-Through').
 ///
 /// The only refusal is [`AllocError`].
-pub fn code_block(
+pub fn literal_block(
     alloc: Global,
-    language: Option<&str>,
+    element: Tag,
+    argument: &Argument,
     options: &[Setting],
     text: &str,
     line: usize,
 ) -> Result<Node>
-    ensures { IfOk result (λ node. node ≡ code_element (option_map (λ word. word.now) language.entry) (choices_in options.now) text.now line) }
+    ensures { IfOk result (λ node. node ≡ literal_element element (given_in argument.now) (choices_in options.now) text.now line) }
 {
     let mut attrs = preserving(alloc)?;
     set_options(alloc, &mut attrs, Holder::Body, options)?;
+    set_argument(alloc, &mut attrs, argument)?;
+    let nodes = text_nodes(alloc, text)?;
+    Ok(element_of(element, attrs, nodes, line))
+}
+
+/// Sets the attributes that the argument of a directive gives.
+#[tactic(auto, using(rst_text::proofs::TextLemmas::bytes_encoded, rst_text::proofs::TextLemmas::bytes_of_chars, crate::proofs::TextLemmas::listed_bytes))]
+fn set_argument(alloc: Global, attrs: &mut Attrs, argument: &Argument) -> Result<()>
+    ensures { IfOk result (λ _. attrs.new ≡ given_attrs (given_in argument.now) attrs.old) }
+{
+    match argument {
+        Argument::Language(None) => set_code(alloc, attrs, None),
+        Argument::Language(Some(word)) => set_code(alloc, attrs, Some(word.as_str())),
+        Argument::Formats(formats) => attrs.set(Key::Format, text_value(alloc, formats.as_str())?),
+        Argument::Classes { ids: Some(ids), .. } => attrs.set(
+            Key::Classes,
+            list_of_texts(alloc, ids)?,
+        ),
+        _ => Ok(()),
+    }
+}
+
+/// Sets the classes of program code in a language, if one is named: `code`, the language as it is written, and those that were
+/// set before.
+fn set_code(alloc: Global, attrs: &mut Attrs, language: Option<&str>) -> Result<()>
+    ensures { IfOk result (λ _. attrs.new ≡ code_attrs (option_map (λ word. word.now) language.entry) attrs.old) }
+{
     let mut classes = Texts::new(alloc);
     classes.push(Text::from_str(alloc, "code")?)?;
     if let Some(word) = language {
@@ -82,7 +113,26 @@ pub fn code_block(
             classes.push(class.copy()?)?;
         }
     }
-    attrs.set(Key::Classes, Value::List(classes))?;
-    let nodes = text_nodes(alloc, text)?;
-    Ok(element_of(Tag::LiteralBlock, attrs, nodes, line))
+    attrs.set(Key::Classes, Value::List(classes))
+}
+
+/// An element that holds the text of a directive, with the classes and the name of its options. Its white characters stay if it
+/// is a literal (Docutils, Directives, 'Rubric', 'Parsed Literal Block').
+///
+/// The only refusal is [`AllocError`].
+pub fn with_options(
+    alloc: Global,
+    mut element: Node,
+    literal: bool,
+    options: &[Setting],
+) -> Result<Node>
+    ensures { IfOk result (λ node. node ≡ with_options literal (choices_in options.now) element) }
+{
+    if let Node::Element { attrs, .. } = &mut element {
+        if literal {
+            attrs.set(Key::XmlSpace, text_value(alloc, "preserve")?)?;
+        }
+        set_options(alloc, attrs, Holder::Body, options)?;
+    }
+    Ok(element)
 }

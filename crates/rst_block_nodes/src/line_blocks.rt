@@ -7,18 +7,20 @@ use super::fault::BlockFault;
 use super::nodes::element_of;
 use super::numbers::Numbers;
 use super::texted::{Texted, with_text};
+use rst_settings::Parts;
 use rst_tree::{Attrs, Result, Tag};
 use std::alloc::Global;
 use std::marker::Model;
 
 /// A line of a line block: how deep it is indented after its bar (none where nothing follows the bar), the number of
-/// the line with the bar, the number of the line that its text begins in, and the text.
+/// the line with the bar, the number of the line that its text begins in, the text, and whether e-mail addresses are asked for in it.
 #[derive(Debug, Drop)]
 pub struct BarText {
     pub indent: Option<usize>,
     pub line: usize,
     pub text_line: usize,
     pub text: String,
+    pub parts: Parts,
 }
 
 /// A line with the indentation that it counts with. Contracts see its text as characters.
@@ -28,6 +30,7 @@ struct IndentedText {
     line: usize,
     text_line: usize,
     text: String,
+    parts: Parts,
 }
 
 impl Model for IndentedText {
@@ -36,7 +39,7 @@ impl Model for IndentedText {
 
     ghost Value = { IndentedLine };
 
-    ghost view = { λ l. record { indent = l.indent; line = l.line; text_line = l.text_line; text = chars (string_bytes l.text) } };
+    ghost view = { λ l. record { indent = l.indent; line = l.line; text_line = l.text_line; text = chars (string_bytes l.text); parts = l.parts } };
 }
 
 /// The line block of some lines, of a level of nesting (Markup Specification, 'Line Blocks'), and the messages of their
@@ -63,6 +66,7 @@ pub fn line_block(
             line: bar.line,
             text_line: bar.text_line,
             text: bar.text,
+            parts: bar.parts,
         })?;
     }
     if deepest < level {
@@ -120,7 +124,8 @@ fn block_of(
         let bar = &lines[place];
         if run == 0 {
             let text = bar.text.as_str();
-            let mut made = with_text(alloc, Tag::Line, bar.line, text, bar.text_line, numbers)?;
+            let (line, text_line) = (bar.line, bar.text_line);
+            let mut made = with_text(alloc, bar.parts, Tag::Line, line, text, text_line, numbers)?;
             nodes.push(made.element)?;
             notes.append(&mut made.notes)?;
             place += 1;

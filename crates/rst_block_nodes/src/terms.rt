@@ -10,6 +10,7 @@ use super::numbers::Numbers;
 use super::texted::{counting, messages_of};
 use rst_inline::{Pieces, inline_from, part};
 use rst_inline_scan::{Kind, Piece, pieces_of};
+use rst_settings::Parts;
 use rst_text::{characters_of, escapes, is_white};
 use rst_tree::{Attrs, Node, Result, Tag, Text};
 use std::alloc::{AllocError, Global};
@@ -29,22 +30,23 @@ pub struct Heads {
 #[tactic(auto, using(crate::proofs::MessageLemmas::messages_from_length))]
 pub fn term_and_classifiers(
     alloc: Global,
+    parts: Parts,
     text: &str,
     line: usize,
     numbers: &mut Numbers,
 ) -> Result<Heads>
-    ensures text { IfOk result (HeadsText (chars text.now) line numbers.old) }
+    ensures text { IfOk result (HeadsText parts (chars text.now) line numbers.old) }
     ensures numbers { IfOk result (λ made. numbers.new ≡ counted_on numbers.old (length made.notes.items)) }
-    ensures read { IfOk result (λ made. termed (chars text.now) line numbers.old ≡ Ok ((made.heads.items, made.notes.items), numbers.new)) }
+    ensures read { IfOk result (λ made. termed parts (chars text.now) line numbers.old ≡ Ok ((made.heads.items, made.notes.items), numbers.new)) }
 {
     let characters = characters_of(alloc, text)?;
-    let pieces = pieces_of(alloc, &characters)?;
-    let parts = plain_parts(alloc, &characters, &pieces)?;
+    let pieces = pieces_of(alloc, parts.mail, &characters)?;
+    let plain = plain_parts(alloc, &characters, &pieces)?;
     let first = numbers.given();
-    let Pieces { nodes, notes } = inline_from(alloc, text, line, first)?;
+    let Pieces { nodes, notes } = inline_from(alloc, parts, text, line, first)?;
     numbers.give(notes.len());
     let notes = messages_of(alloc, notes, first)?;
-    let nodes = with_parts(alloc, nodes, parts)?;
+    let nodes = with_parts(alloc, nodes, plain)?;
     let heads = heads_of(alloc, nodes, notes.len(), line)?;
     Ok(Heads { heads, notes })
 }

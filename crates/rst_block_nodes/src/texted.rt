@@ -8,6 +8,7 @@ ghost use Rattle.rst_block_nodes.specs.Results.{HoldsText};
 use super::nodes::element_of;
 use super::numbers::Numbers;
 use rst_inline::{Pieces, inline_from};
+use rst_settings::Parts;
 use rst_tree::{Attrs, Key, Node, Note, Result, Tag, Value};
 use std::alloc::Global;
 
@@ -19,25 +20,26 @@ pub struct Texted {
 }
 
 /// An element of line `line` with the nodes of a text whose first line is `text_line`, and the text's messages (Markup
-/// Specification, 'Inline Markup'). The element has the number of messages as an attribute, if there are some. A message and its problematic have
+/// Specification, 'Inline Markup'), by the parts of the wider profile that hold. The element has the number of messages as an attribute, if there are some. A message and its problematic have
 /// one number, by which the document's messages are counted.
 ///
 /// The only refusal is [`AllocError`].
 #[tactic(auto, using(crate::proofs::MessageLemmas::messages_from_length))]
 pub fn with_text(
     alloc: Global,
+    parts: Parts,
     tag: Tag,
     line: usize,
     text: &str,
     text_line: usize,
     numbers: &mut Numbers,
 ) -> Result<Texted>
-    ensures text { IfOk result (HoldsText tag line (chars text.now) text_line numbers.old) }
+    ensures text { IfOk result (HoldsText parts tag line (chars text.now) text_line numbers.old) }
     ensures numbers { IfOk result (λ read. numbers.new ≡ counted_on numbers.old (length read.notes.items)) }
-    ensures read { IfOk result (λ made. texted tag line (chars text.now) text_line numbers.old ≡ Ok ((made.element, made.notes.items), numbers.new)) }
+    ensures read { IfOk result (λ made. texted parts tag line (chars text.now) text_line numbers.old ≡ Ok ((made.element, made.notes.items), numbers.new)) }
 {
     let first = numbers.given();
-    let Pieces { nodes, notes } = inline_from(alloc, text, text_line, first)?;
+    let Pieces { nodes, notes } = inline_from(alloc, parts, text, text_line, first)?;
     // Most texts have no messages.
     if notes.is_empty() {
         return Ok(Texted {

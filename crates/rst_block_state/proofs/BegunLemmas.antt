@@ -4,7 +4,7 @@ use Rattle.std.specs.Option.{option_map_or}
 use Rattle.rst_text.specs.Block.{Block}
 use Rattle.rst_markup_blocks.specs.Begun.{IsBegun}
 use Rattle.rst_markup_blocks.specs.declared.begun.Begun.{Begun}
-use Rattle.rst_markup_blocks.specs.declared.begun.Begun.TheVariants.{Blank, Quote, Bullet, Enumerator, Field, OptionItem, Doctest, Line, Grid, Simple, Explicit, Anonymous, Adornment, Text}
+use Rattle.rst_markup_blocks.specs.declared.begun.Begun.TheVariants.{Bullet, Enumerator, Field, OptionItem, Line, Adornment}
 use Rattle.rst_block_state.specs.machine.Begins.{construct_with}
 use Rattle.rst_block_state.specs.Constructs.{bullet_item, enumerated_item, field_item, option_item, item_of_list, bar_line, adorned, bullet_with, plain_text, construct_at, construct_by}
 

@@ -1,7 +1,7 @@
 -- Parts of a view are blocks of it.
-use Rattle.std.proofs.Common.{◌≡◌, ℕ, zero, suc, ◌+◌, ◌-◌, ◌<◌, ◌≤◌, Bool, true, false, [], ◌∷◌, ◌||◌, ◌&&◌, length, take, drop, length-drop, arith, refl, sym, ap, ◌∙◌}
+use Rattle.std.proofs.Common.{◌≡◌, ℕ, ◌+◌, ◌-◌, ◌<◌, ◌≤◌, false, length, take, drop, length-drop, arith, refl, sym, ap, ◌∙◌}
 use Rattle.std.proofs.lemmas.List.{drop-drop}
-use Rattle.rst_text.specs.Block.{Block, is_blank, indentation}
+use Rattle.rst_text.specs.Block.{Block}
 use Rattle.rst_text.specs.Extent.{extent, extent_of}
 use Rattle.rst_text.specs.MayCut.{is_indented}
 use Rattle.rst_text.proofs.CutLaws.{take_of}

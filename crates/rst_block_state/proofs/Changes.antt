@@ -8,7 +8,7 @@ use Rattle.rst_block_nodes.specs.declared.heading.Heading.{Heading}
 use Rattle.rst_block_state.specs.machine.Meanings.{open_run_of, within_at, done_of, reads, reads_from, with_item}
 use Rattle.rst_block_state.specs.Numbered.{before}
 use Rattle.rst_block_state.specs.machine.OpenBlocks.{IsMoved, HasRun, HasMoreAt, HasMore, IsClosed, HasItemIn, HasItem, HasTitle}
-use Rattle.rst_block_state.specs.machine.Rest.{OpenRun, no_run, open_list, open_lines, open_markup, rest}
+use Rattle.rst_block_state.specs.machine.Rest.{OpenRun, open_list, rest}
 use Rattle.rst_block_state.specs.Titles.{Item, plain, titled}
 use Rattle.rst_block_state.specs.declared.open_block.OpenBlock.{OpenBlock}
 

@@ -1,7 +1,7 @@
 -- Few lines are looked at: no more than a block has.
-use Rattle.std.proofs.Common.{◌≡◌, ℕ, suc, ◌-◌, ◌≤◌, Bool, true, false, cond, [], ◌∷◌, length, drop, length-drop, arith, refl}
-use Rattle.rst_text.specs.Block.{Block, is_blank}
-use Rattle.rst_text.specs.Reach.{reach, through_text}
+use Rattle.std.proofs.Common.{◌≡◌, ℕ, ◌≤◌, true, [], ◌∷◌, length, arith, refl}
+use Rattle.rst_text.specs.Block.{Block}
+use Rattle.rst_text.specs.Reach.{reach}
 use Rattle.rst_markup_lines.specs.declared.marker.Marker.{Marker}
 use Rattle.rst_markup_blocks.specs.Conditions.{next_text}
 use Rattle.rst_markup_blocks.proofs.ReachLaws.{reach_within}

@@ -14,7 +14,7 @@ use Rattle.rst_markup_lines.specs.declared.enumerator.Ordinals.TheVariants.{Auto
 use Rattle.rst_markup_lines.specs.declared.enumerator.Sequence.{Sequence}
 use Rattle.rst_markup_blocks.specs.Partition.{Span, spans}
 use Rattle.rst_block_nodes.specs.Sections.{filled}
-use Rattle.rst_block_state.specs.Constructs.{Construct, nothing, block_quote, item_of_list, doctest_block, bar_line, grid, simple, explicit_markup, transition, overlined_title, misplaced_lines, underlined_title, paragraph, ItemMark, bullet_item, enumerated_item, definition_item, field_item, option_item, Found, found_at}
+use Rattle.rst_block_state.specs.Constructs.{Construct, item_of_list, bar_line, explicit_markup, ItemMark, bullet_item, enumerated_item, definition_item, field_item, option_item, Found, found_at}
 use Rattle.rst_block_state.specs.Joins.{Joining, bullets, enumerators, definitions, fields, options, lines_from, explicits, none, list_joining, enumerators_by, is_next_after, list_joining_after, joining_of, joining_after, joined_ending, alone_ending}
 use Rattle.rst_block_state.specs.LineRuns.{indented_line, indented_lines, indentation_of, line_block}
 use Rattle.rst_block_state.specs.Lists.{empty_list, infos_of, list_notes}

@@ -2,7 +2,7 @@
 use Rattle.std.proofs.Common.{◌≡◌, ℕ, zero, suc, ◌+◌, ◌-◌, ◌<◌, ◌≤◌, min, Bool, true, false, not, ◌&&◌, ◌||◌, ◌==◌, cond, List, [], ◌∷◌, length, take, drop, map, length-drop, length-take, arith, refl, sym, ap, ◌∙◌, leb}
 use Rattle.std.specs.Char.{is_whitespace}
 use Rattle.std.proofs.lemmas.Bool.{eqb-true, leb-true, and_parts, or_parts, not-true, not_from_false}
-use Rattle.std.proofs.lemmas.List.{drop-drop, length-map}
+use Rattle.std.proofs.lemmas.List.{drop-drop}
 use Rattle.rst_markup_directives.proofs.Parts.{length-shorten_all}
 use Rattle.rst_text.specs.Block.{Line, Block, first_text, is_blank, indentation, shorten, shorten_all, cut}
 use Rattle.rst_text.specs.Extent.{extent}

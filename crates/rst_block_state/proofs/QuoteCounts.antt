@@ -2,7 +2,7 @@
 use Rattle.std.proofs.Common.{◌≡◌, ℕ, zero, suc, ◌+◌, ◌-◌, ◌<◌, ◌≤◌, List, [], ◌∷◌, ◌++◌, length, length-drop, drop, take, Option, Some, None, arith, refl, ap, option_map, option_and_then, is_some}
 use Rattle.std.specs.Option.{option_map_or}
 use Rattle.rst_text.proofs.Choices.{chosen, none_is}
-use Rattle.rst_text.specs.Block.{Block, first_text, is_blank, first_number, indentation}
+use Rattle.rst_text.specs.Block.{Block, first_text, is_blank, first_number, indentation, first_parts}
 use Rattle.rst_text.specs.Places.{first_from, IsFirst}
 use Rattle.rst_text.proofs.PlacesLemmas.{first_from-IsFirst}
 use Rattle.rst_tree.specs.declared.node.Node.{Node}
@@ -68,7 +68,7 @@ pub quotes_same : (c : Within) (f g : Block → Numbered (List Node)) (Q : Block
     → ((a : Attribution) → length (quote_after Q a) ≤ length Q - 1 → (m : ℕ) → f (quote_after Q a) m ≡ g (quote_after Q a) m) → quotes_by c f Q o n ≡ quotes_by c g Q o n
 quotes_same c f g Q n None e h = refl
 quotes_same c f g Q n (Some (k, a)) e h =
-    same_after (texted AttributionTag (first_number (drop k Q)) (joined (lines_in Q (attribution_part k a))) (first_number (drop k Q)) n)
+    same_after (texted (first_parts (drop k Q)) AttributionTag (first_number (drop k Q)) (joined (lines_in Q (attribution_part k a))) (first_number (drop k Q)) n)
     (λ (made : Node × List Node). c.inner (take k Q) >>= λ nodes. f (quote_after Q a) >>= λ more. just (quote_node Q (nodes ++ made.0 ∷ []) ∷ made.1 ++ more))
     (λ (made : Node × List Node). c.inner (take k Q) >>= λ nodes. g (quote_after Q a) >>= λ more. just (quote_node Q (nodes ++ made.0 ∷ []) ∷ made.1 ++ more))
     (λ made i. same_after (c.inner (take k Q) i)

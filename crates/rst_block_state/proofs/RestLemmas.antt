@@ -1,16 +1,15 @@
 -- What is still to come of a block, line by line and construct by construct.
-use Rattle.std.proofs.Common.{◌≡◌, ℕ, zero, suc, ◌+◌, ◌-◌, ◌<◌, ◌≤◌, Bool, true, false, List, [], ◌∷◌, ◌++◌, length, drop, map, Option, Some, None, arith, refl, sym, ◌∙◌, ap, append-nil, inl, inr}
+use Rattle.std.proofs.Common.{◌≡◌, ℕ, suc, ◌+◌, ◌-◌, ◌≤◌, Bool, true, List, [], ◌∷◌, ◌++◌, length, drop, map, Option, Some, None, arith, refl, sym, ◌∙◌, ap, append-nil}
 use Rattle.std.specs.Prelude.{◌==◌, if◌then◌else◌}
-use Rattle.std.proofs.lemmas.List.{drop_all, drop-drop}
-use Rattle.std.proofs.lemmas.Bool.{cases_lt}
-use Rattle.rst_text.specs.Block.{Block, is_blank, first_text}
+use Rattle.std.proofs.lemmas.List.{drop-drop}
+use Rattle.rst_text.specs.Block.{Block}
 use Rattle.rst_tree.specs.declared.node.Node.{Node}
-use Rattle.rst_markup_blocks.specs.Partition.{Span, spans_from, construct_size, construct_end, AreBlank, IsBlankAt, IsTextAt}
+use Rattle.rst_markup_blocks.specs.Partition.{Span, construct_end, AreBlank, IsBlankAt, IsTextAt}
 use Rattle.rst_markup_blocks.proofs.PartitionLemmas.{past, construct_at, over_blanks, none_past}
 pub use Rattle.rst_markup_blocks.proofs.PartitionLemmas.{span_to}
 use Rattle.rst_markup_lines.specs.declared.marker.Marker.{Marker}
 use Rattle.rst_block_state.specs.Constructs.{Construct, ItemMark, item_of_list, bar_line, explicit_markup, Found, found_at}
-use Rattle.rst_block_state.specs.Joins.{Joining, bullets, enumerators, definitions, fields, options, lines_from, explicits, none, joining_after, alone_ending}
+use Rattle.rst_block_state.specs.Joins.{Joining, bullets, lines_from, joining_after, alone_ending}
 use Rattle.rst_block_state.specs.LineRuns.{IndentedLine, indented_lines}
 use Rattle.rst_block_state.specs.Lists.{item_by}
 use Rattle.rst_block_state.specs.Markup.{markup_nodes}

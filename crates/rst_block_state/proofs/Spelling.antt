@@ -7,7 +7,7 @@ use Rattle.std.proofs.Math.Utf8.{encode, encodes}
 use Rattle.std.specs.declared.string.String.{String}
 use Rattle.std.proofs.lemmas.Str.{encodes-append, encode_ascii, chars_past_char, chars_from_encodes, IsUtf8-string_bytes}
 use Rattle.std.proofs.lemmas.Bool.{cases_lt}
-use Rattle.std.proofs.lemmas.List.{take_all, drop_all, take-map}
+use Rattle.std.proofs.lemmas.List.{take_all, drop_all, map-append, take-map}
 use Rattle.rst_text.specs.Block.{Line, Block, first_text, shorten, shorten_all}
 use Rattle.rst_text.specs.Text.{chars_of}
 use Rattle.rst_text.proofs.Indenting.{no_chars}
@@ -50,9 +50,21 @@ take_one_more i [] h = absurd (omega arith)
 take_one_more zero (l ∷ ls) h = refl
 take_one_more (suc i) (l ∷ ls) h = ap (λ ts. l.text ∷ ts) (take_one_more i ls (omega arith))
 
-join_more : (c : ℕ) (t : List ℕ) (ts : List (List ℕ)) (u : List ℕ) → join_with_byte c ((t ∷ ts) ++ u ∷ []) ≡ join_with_byte c (t ∷ ts) ++ c ∷ u
-join_more c t [] u = refl
-join_more c t (s ∷ ts) u = ap (λ x. t ++ c ∷ x) (join_more c s ts u) ∙ sym (append_assoc t (c ∷ join_with_byte c (s ∷ ts)) (c ∷ u))
+join_more : (c : ℕ) (t : List ℕ) (ts : List (List ℕ)) (u : List ℕ) (us : List (List ℕ)) → join_with_byte c ((t ∷ ts) ++ u ∷ us) ≡ join_with_byte c (t ∷ ts) ++ c ∷ join_with_byte c (u ∷ us)
+join_more c t [] u us = refl
+join_more c t (s ∷ ts) u us = ap (λ x. t ++ c ∷ x) (join_more c s ts u us) ∙ sym (append_assoc t (c ∷ join_with_byte c (s ∷ ts)) (c ∷ join_with_byte c (u ∷ us)))
+
+-- two texts, one after the other
+joined_append : (X Y : Block) → 0 < length X → 0 < length Y → joined (X ++ Y) ≡ joined X ++ 10 ∷ joined Y
+joined_append [] Y x y = absurd (omega arith)
+joined_append (l ∷ ls) [] x y = absurd (omega arith)
+joined_append (l ∷ ls) (m ∷ ms) x y =
+    ap (λ ts. join_with_byte 10 (l.text ∷ ts)) (map-append (λ (n : Line). n.text) ls (m ∷ ms)) ∙ join_more 10 l.text (map (λ (n : Line). n.text) ls) m.text (map (λ (n : Line). n.text) ms)
+
+pub spelled_append : (X Y : Block) → 0 < length X → 0 < length Y → spelled (X ++ Y) ≡ (spelled X ++ 10 ∷ []) ++ spelled Y
+spelled_append X Y x y =
+    ap encodes (joined_append X Y x y) ∙ encodes-append (joined X) (10 ∷ joined Y) ∙ ap (λ t. encodes (joined X) ++ (t ++ encodes (joined Y))) (encode_ascii 10 (omega arith))
+    ∙ sym (append_assoc (encodes (joined X)) (10 ∷ []) (encodes (joined Y)))
 
 -- the texts of the first lines, joined
 joined_taken : (i : ℕ) (B : Block) → joined (take i B) ≡ join_with_byte 10 (take i (map (λ (l : Line). l.text) B))
@@ -68,7 +80,7 @@ joined_more zero (l ∷ ls) z h = absurd (omega arith)
 joined_more (suc i) (l ∷ ls) z h =
     joined_taken (suc (suc i)) (l ∷ ls)
     ∙ ap (λ ts. join_with_byte 10 (l.text ∷ ts)) (take_one_more i ls (omega arith))
-    ∙ join_more 10 l.text (take i (map (λ (m : Line). m.text) ls)) (first_text (drop i ls))
+    ∙ join_more 10 l.text (take i (map (λ (m : Line). m.text) ls)) (first_text (drop i ls)) []
     ∙ ap (λ t. t ++ 10 ∷ first_text (drop i ls)) (sym (joined_taken (suc i) (l ∷ ls)))
 
 spelled_more : (i : ℕ) (B : Block) → 0 < i → i < length B → spelled (take (suc i) B) ≡ (spelled (take i B) ++ 10 ∷ []) ++ encode_utf8_all (first_text (drop i B))

@@ -18,7 +18,7 @@ use Rattle.rst_markup_tables.specs.declared.results.TableResult.TheVariants.{Tab
 use Rattle.rst_block_nodes.specs.declared.texted.Texted.{Texted}
 use Rattle.rst_block_state.specs.looks.Budget.{sum_of, total}
 use Rattle.rst_block_state.specs.Inside.{quoted_by, quoted, quoted_blocks, cell_blocks}
-use Rattle.rst_block_state.specs.looks.Ledger.{total_at, totals, most_from, least_from, goes_on_at, part_blocks, quotes_left, run_looks, waiting_looks, end_looks, next_blocks, next_cells, place_after, most_after, least_after, most_left, least_left, GoesOn, WaitsForOne, AreQuotesPaid, Takes}
+use Rattle.rst_block_state.specs.looks.Ledger.{totals, most_from, least_from, goes_on_at, quotes_left, run_looks, waiting_looks, end_looks, next_blocks, next_cells, place_after, most_after, least_after, most_left, least_left, GoesOn, WaitsForOne, AreQuotesPaid, Takes}
 use Rattle.rst_block_state.specs.machine.MeaningLaws.{first_lines_of}
 use Rattle.rst_block_state.specs.machine.Meanings.{deepest}
 use Rattle.rst_block_state.specs.Quotes.{first_attribution, quote_after}
@@ -26,9 +26,9 @@ use Rattle.rst_block_state.specs.machine.Steps.{rest_of}
 use Rattle.rst_block_state.specs.Texts.{lines_in}
 use Rattle.rst_block_state.specs.declared.open_block.OpenBlock.{OpenBlock}
 use Rattle.rst_block_state.specs.declared.waits.Waits.{Waits}
-use Rattle.rst_block_state.specs.declared.waits.Waits.TheVariants.{ListItem, ListedBody, Quote, Element, Figure, Replacement}
+use Rattle.rst_block_state.specs.declared.waits.Waits.TheVariants.{Quote}
 use Rattle.rst_block_state.specs.declared.step.Step.{Step}
-use Rattle.rst_block_state.specs.declared.step.Step.TheVariants.{Begin, Next, Open, Cells, Done}
+use Rattle.rst_block_state.specs.declared.step.Step.TheVariants.{Begin, Next, Cells, Done}
 use Rattle.rst_block_state.proofs.LedgerLemmas.{sum_append}
 use Rattle.rst_block_state.proofs.MeaningLemmas.{not_zero}
 use Rattle.rst_block_state.proofs.QuoteCounts.{attribution_within}

@@ -1,31 +1,32 @@
 -- Directives, and substitution definitions, which hold directives (Markup Specification, 'Directives', 'Substitution Definitions'; Directives,
--- 'Admonitions', 'Images', 'Topic', 'Code', 'Replacement Text').
-use Rattle.std.specs.Prelude.{ℕ, true, false, List, [], ◌∷◌, ◌++◌, drop, codes, Option, Some, None, encode_utf8_all, if◌then◌else◌}
-use Rattle.rst_text.specs.Block.{Block, first_text, first_number}
+-- 'Admonitions', 'Images', 'Topic', 'Code', 'Rubric', 'Parsed Literal Block', 'Raw Data Pass-Through', 'Compound Paragraph', 'Container', 'Replacement
+-- Text').
+use Rattle.std.specs.Prelude.{ℕ, Bool, true, false, List, [], ◌∷◌, ◌++◌, drop, codes, Option, Some, None, encode_utf8_all, if◌then◌else◌}
+use Rattle.rst_settings.specs.declared.Parts.{Parts}
+use Rattle.rst_text.specs.Block.{Block, first_text, first_number, first_parts}
 use Rattle.rst_tree.specs.Forest.{Forest}
 use Rattle.rst_tree.specs.Nodes.{nodes_of}
 use Rattle.rst_tree.specs.declared.node.Node.{Node}
 use Rattle.rst_tree.specs.declared.node.Node.TheVariants.{Element, Text}
-use Rattle.rst_tree.specs.declared.note.Level.TheVariants.{Warning, Error}
+use Rattle.rst_tree.specs.declared.note.Level.TheVariants.{Error, Warning}
 use Rattle.rst_tree.specs.declared.tag.Tag.{Tag}
 use Rattle.rst_tree.specs.declared.tag.Tag.TheVariants.{Admonition, Paragraph, Title as TitleTag}
 use Rattle.rst_markup_blocks.specs.Partition.{Span}
 use Rattle.rst_markup_blocks.specs.declared.forms.Invocation.{Invocation}
-use Rattle.rst_markup_directives.specs.Argument.{ArgumentMeaning, nothing, title, uri, language}
+use Rattle.rst_markup_directives.specs.Argument.{ArgumentMeaning, title, uri}
 use Rattle.rst_markup_directives.specs.Directive.{Read, Outcome, found, wrong, directive_at}
-use Rattle.rst_markup_directives.specs.Message.{fault_text}
+use Rattle.rst_markup_directives.specs.Kind.{has_blocks, is_marked}
+use Rattle.rst_markup_directives.specs.Message.{fault_level, fault_text}
 use Rattle.rst_markup_directives.specs.Wrong.{Fault, not_in_substitution}
 use Rattle.rst_markup_directives.specs.declared.found.Content.{Content}
 use Rattle.rst_markup_directives.specs.declared.found.Place.{Place}
 use Rattle.rst_markup_directives.specs.declared.found.Place.TheVariants.{Top, Body, Substitution}
-use Rattle.rst_markup_directives.specs.declared.kind.ContentKind.{ContentKind}
-use Rattle.rst_markup_directives.specs.declared.kind.ContentKind.TheVariants.{Lines, Caption}
 use Rattle.rst_block_nodes.specs.Admonitions.{with_title_class}
 use Rattle.rst_block_nodes.specs.Elements.{substitution_definition_node}
 use Rattle.rst_block_nodes.specs.Targets.{may_replace}
 use Rattle.rst_block_nodes.specs.Values.{normalized, unescaped}
 use Rattle.rst_block_nodes.specs.Sections.{filled}
-use Rattle.rst_block_nodes.specs.Options.{code_element, directive_element, figure_element, image_element}
+use Rattle.rst_block_nodes.specs.Options.{directive_element, figure_element, image_element, literal_element, with_options}
 use Rattle.rst_block_state.specs.Figures.{caption_error, figure_nodes}
 use Rattle.rst_block_state.specs.LineRuns.{number_or}
 use Rattle.rst_block_state.specs.Numbered.{Numbered, ◌>>=◌, just}
@@ -47,6 +48,10 @@ called c B i call place = directive_at c.code B i call place (is_single_paragrap
 
 -- ---- directives
 
+-- the message on a wrong directive of this name, with its lines
+abbrev pub fault_node : Fault → Block → Span → List ℕ → Node
+fault_node fault B s name = message_with_lines (fault_level fault) (first_number (drop s.start B)) (fault_text fault name) (span_source B s)
+
 -- the element of a directive with a title: the title of an admonition gives its class, unless the options do
 abbrev pub titled_element : Tag → Node → Node → Node
 titled_element Admonition element heading = with_title_class element heading
@@ -55,15 +60,15 @@ titled_element _ element heading = element
 -- a directive with a title, whose first line may be the one after the directive's, the messages on the title's text, and the content
 abbrev pub titled_nodes : Within → Block → ℕ → Read → Block → Numbered (List Node)
 titled_nodes c B line read lines = do
-  made ← texted TitleTag (number_or line lines) (joined lines) (number_or line lines)
+  made ← texted (first_parts lines) TitleTag (number_or line lines) (joined lines) (number_or line lines)
   nodes ← content_nodes c B read.content
-  just (filled (titled_element read.kind.element (directive_element read.kind.element read.options line) made.0) (made.0 ∷ made.1 ++ nodes) ∷ [])
+  just (filled (titled_element read.kind.element (directive_element read.kind.element read.argument read.options line) made.0) (made.0 ∷ made.1 ++ nodes) ∷ [])
 
--- a directive without an argument, and its content
+-- a directive without a title, and its content
 abbrev pub plain_nodes : Within → Block → ℕ → Read → Numbered (List Node)
 plain_nodes c B line read = do
   nodes ← content_nodes c B read.content
-  just (filled (directive_element read.kind.element read.options line) nodes ∷ [])
+  just (filled (directive_element read.kind.element read.argument read.options line) nodes ∷ [])
 
 -- a figure: its image, and its content as caption and legend; an ERROR on it shows these lines
 abbrev pub figure_of : Within → Block → ℕ → Read → List ℕ → List ℕ → Numbered (List Node)
@@ -72,23 +77,46 @@ figure_of c B line read address lines = do
   just (figure_nodes (filled (figure_element read.options line) (image_element address read.options line true None ∷ []))
       (caption_error line lines) nodes)
 
--- program code in a language or in none; its content is no block
-abbrev pub code_nodes : Block → ℕ → Read → Option (List ℕ) → List Node
-code_nodes B line read word = code_element word read.options (spelled (lines_in B read.content.second)) line ∷ []
+-- the lines of a content that is a text: those before the options, and those after them
+abbrev pub content_lines : Block → Content → Block
+content_lines B content = lines_in B content.first ++ lines_in B content.second
 
--- a directive by its argument and its content: images and figures have a URI, program code may have a language
-abbrev pub right_by : ArgumentMeaning → ContentKind → Within → Block → ℕ → Read → List ℕ → Numbered (List Node)
-right_by nothing Lines c B line read lines = just (code_nodes B line read None)
-right_by nothing content c B line read lines = plain_nodes c B line read
-right_by (title part) content c B line read lines = titled_nodes c B line read (lines_in B part)
-right_by (uri address) Caption c B line read lines = figure_of c B line read (encode_utf8_all address) lines
-right_by (uri address) content c B line read lines = just (image_element (encode_utf8_all address) read.options line false None ∷ [])
-right_by (language word) content c B line read lines = just (code_nodes B line read (Some (encode_utf8_all word)))
+-- a directive whose text, of these lines, has inline markup, and the messages on the text
+abbrev pub text_nodes : Parts → Bool → ℕ → Read → Block → Numbered (List Node)
+text_nodes parts literal line read lines = do
+  made ← texted parts read.kind.element line (joined lines) line
+  just (with_options literal read.options made.0 ∷ made.1)
 
--- a directive, or the ERROR on one that is wrong, which shows its lines; no block of a wrong directive is read
+-- a directive whose content is blocks, by its argument: a title, the URI of a figure's image, or another or none
+abbrev pub opened_by : ArgumentMeaning → Within → Block → ℕ → Read → List ℕ → Numbered (List Node)
+opened_by (title part) c B line read lines = titled_nodes c B line read (lines_in B part)
+opened_by (uri address) c B line read lines = figure_of c B line read (encode_utf8_all address) lines
+opened_by _ c B line read lines = plain_nodes c B line read
+
+-- a directive without blocks and markup: an image, which may have an alternate text unless its options have one, or a literal
+abbrev pub element_by : ArgumentMeaning → Option (List ℕ) → Block → ℕ → Read → Node
+element_by (uri address) alt B line read = image_element (encode_utf8_all address) read.options line false alt
+element_by given alt B line read = literal_element read.kind.element given read.options (spelled (content_lines B read.content)) line
+
+-- a directive that holds neither blocks nor markup, by its argument: a title without content is the text of its element
+abbrev pub closed_by : ArgumentMeaning → Block → ℕ → Read → Numbered (List Node)
+closed_by (title part) B line read = text_nodes (first_parts B) false line read (lines_in B part)
+closed_by given B line read = just (element_by given None B line read ∷ [])
+
+-- a directive that holds no blocks
+abbrev pub closed_nodes : Block → ℕ → Read → Numbered (List Node)
+closed_nodes B line read =
+    if is_marked read.kind.content then text_nodes (first_parts B) true line read (content_lines B read.content) else closed_by read.argument B line read
+
+-- a directive, which starts in this line, with its lines
+abbrev pub right_nodes : Within → Block → ℕ → Read → List ℕ → Numbered (List Node)
+right_nodes c B line read lines =
+    if has_blocks read.kind.content then opened_by read.argument c B line read lines else closed_nodes B line read
+
+-- a directive, or the message on one that is wrong, which shows its lines; no block of a wrong directive is read
 abbrev pub directive_by : Outcome → Within → Block → Span → List ℕ → Numbered (List Node)
-directive_by (found read) c B s name = right_by read.argument read.kind.content c B (first_number (drop s.start B)) read (span_source B s)
-directive_by (wrong fault part) c B s name = just (message_with_lines Error (first_number (drop s.start B)) (fault_text fault name) (span_source B s) ∷ [])
+directive_by (found read) c B s name = right_nodes c B (first_number (drop s.start B)) read (span_source B s)
+directive_by (wrong fault part) c B s name = just (fault_node fault B s name ∷ [])
 
 -- the directive that is called in the first of some lines; its place is the document itself where titles are recognized, else a body
 abbrev pub directive_nodes : Within → Block → Span → Invocation → Numbered (List Node)
@@ -123,22 +151,18 @@ abbrev pub faulty_name : Fault → List ℕ → List ℕ → List ℕ
 faulty_name not_in_substitution name written = name
 faulty_name _ name written = written
 
--- A substitution definition by the argument of its directive: an image has a URI, and the definition's name in place of a missing `alt`. A
--- replacement text has no argument: the children of its one paragraph replace a reference, and the messages that its block gives beside the
--- paragraph are dropped.
-abbrev pub definition_by : ArgumentMeaning → Within → Block → ℕ → List ℕ → Read → List ℕ → Numbered (List Node)
-definition_by (uri address) c B line name read lines =
-    just (filled (substitution_definition_node name line)
-    (image_element (encode_utf8_all address) read.options line false (Some name) ∷ []) ∷ [])
-definition_by _ c B line name read lines = do
-  nodes ← content_nodes c B read.content
-  just (replacement name line lines (first_paragraph nodes) ∷ [])
+-- A substitution definition with its directive. The children of the one paragraph of a replacement text replace a reference, and the messages that
+-- its block gives beside the paragraph are dropped. An image has the definition's name in place of a missing `alt`.
+abbrev pub definition_nodes : Within → Block → ℕ → List ℕ → Read → List ℕ → Numbered (List Node)
+definition_nodes c B line name read lines =
+    if has_blocks read.kind.content
+    then content_nodes c B read.content >>= (λ nodes. just (replacement name line lines (first_paragraph nodes) ∷ []))
+    else just (filled (substitution_definition_node name line) (element_by read.argument (Some name) B line read ∷ []) ∷ [])
 
--- a substitution definition with its directive, or the ERROR on a wrong one, which shows the definition's lines and leaves no definition
+-- a substitution definition with its directive, or the message on a wrong one, which shows the definition's lines and leaves no definition
 abbrev pub definition_or_error : Outcome → Within → Block → Span → List ℕ → List ℕ → Numbered (List Node)
-definition_or_error (found read) c B s name written = definition_by read.argument c B (first_number (drop s.start B)) name read (span_source B s)
-definition_or_error (wrong fault part) c B s name written =
-    just (message_with_lines Error (first_number (drop s.start B)) (fault_text fault (faulty_name fault name written)) (span_source B s) ∷ [])
+definition_or_error (found read) c B s name written = definition_nodes c B (first_number (drop s.start B)) name read (span_source B s)
+definition_or_error (wrong fault part) c B s name written = just (fault_node fault B s (faulty_name fault name written) ∷ [])
 
 -- a substitution definition by the directive that it holds, or the WARNING where it holds none, which leaves no definition
 abbrev pub substitution_by : Option Invocation → Within → Block → Span → List ℕ → Numbered (List Node)

@@ -1,5 +1,5 @@
 -- The blocks that are opened inside a block, and the cells of its tables (Markup Specification, 'Body Elements').
-use Rattle.std.specs.Prelude.{ℕ, zero, suc, ◌+◌, not, Bool, true, false, List, [], ◌∷◌, length, take, drop, flat_map, Option, None, Some, if◌then◌else◌}
+use Rattle.std.specs.Prelude.{ℕ, zero, suc, ◌+◌, Bool, true, false, List, [], ◌∷◌, length, take, drop, flat_map, Option, None, Some, if◌then◌else◌}
 use Rattle.rst_text.specs.Block.{Block}
 use Rattle.rst_markup_blocks.specs.Explicit.{explicit_of}
 use Rattle.rst_markup_blocks.specs.declared.attribution.Attribution.{Attribution}
@@ -7,9 +7,8 @@ use Rattle.rst_markup_blocks.specs.declared.forms.Explicit.{Explicit}
 use Rattle.rst_markup_blocks.specs.declared.forms.Explicit.TheVariants.{Footnote, Citation, Substitution, Directive}
 use Rattle.rst_markup_blocks.specs.declared.forms.Invocation.{Invocation}
 use Rattle.rst_markup_blocks.specs.declared.part.Part.{Part}
-use Rattle.rst_markup_directives.specs.Argument.{ArgumentMeaning, nothing, title, uri, language}
 use Rattle.rst_markup_directives.specs.Directive.{Outcome, found, wrong}
-use Rattle.rst_markup_directives.specs.Kind.{is_lines, is_caption}
+use Rattle.rst_markup_directives.specs.Kind.{has_blocks}
 use Rattle.rst_markup_directives.specs.declared.found.Content.{Content}
 use Rattle.rst_markup_directives.specs.declared.found.Place.TheVariants.{Top, Body, Substitution as InDefinition}
 use Rattle.rst_markup_directives.specs.declared.kind.ContentKind.{ContentKind}
@@ -56,35 +55,19 @@ part_of_item i (option_item m) X = hanging i m X
 abbrev pub content_blocks : Block → Content → List Block
 content_blocks B content = lines_in B content.first ∷ lines_in B content.second ∷ []
 
--- the content of a directive is blocks, by its argument and what it takes as content: an image has none, and program code is no block
-abbrev pub has_blocks : ArgumentMeaning → ContentKind → Bool
-has_blocks nothing kind = not (is_lines kind)
-has_blocks (title part) kind = true
-has_blocks (uri address) kind = is_caption kind
-has_blocks (language word) kind = false
-
--- the blocks of the content of a directive
-abbrev pub directive_content : ArgumentMeaning → ContentKind → Block → Content → List Block
-directive_content given kind B content = if has_blocks given kind then content_blocks B content else []
+-- the blocks of the content of a directive, if it is blocks
+abbrev pub directive_content : ContentKind → Block → Content → List Block
+directive_content kind B content = if has_blocks kind then content_blocks B content else []
 
 -- no block of a wrong directive is read
 abbrev pub directive_blocks : Outcome → Block → List Block
-directive_blocks (found read) B = directive_content read.argument read.kind.content B read.content
+directive_blocks (found read) B = directive_content read.kind.content B read.content
 directive_blocks (wrong fault part) B = []
-
--- the content of a substitution definition, by the argument of its directive: an image, which has a URI, has none
-abbrev pub definition_content : ArgumentMeaning → Block → Content → List Block
-definition_content (uri address) B content = []
-definition_content _ B content = content_blocks B content
-
-abbrev pub definition_blocks : Outcome → Block → List Block
-definition_blocks (found read) B = definition_content read.argument B read.content
-definition_blocks (wrong fault part) B = []
 
 -- a substitution definition that holds no directive has no block
 abbrev pub substitution_blocks : Option Invocation → Within → Block → ℕ → List Block
 substitution_blocks None c B i = []
-substitution_blocks (Some call) c B i = definition_blocks (called c B i call InDefinition) B
+substitution_blocks (Some call) c B i = directive_blocks (called c B i call InDefinition) B
 
 -- the blocks of explicit markup in line i; a target and a comment have none
 abbrev pub markup_blocks : Explicit → Within → Block → ℕ → List Block

@@ -1,6 +1,6 @@
 -- Line blocks (Markup Specification, 'Line Blocks').
 use Rattle.std.specs.Prelude.{ℕ, ◌+◌, ◌-◌, List, [], ◌∷◌, ◌++◌, drop, slice_range, if◌then◌else◌}
-use Rattle.rst_text.specs.Block.{Block, first_number, cut}
+use Rattle.rst_text.specs.Block.{Block, first_number, cut, first_parts}
 use Rattle.rst_tree.specs.declared.node.Node.{Node}
 use Rattle.rst_markup_lines.specs.declared.marker.Marker.{Marker}
 use Rattle.rst_markup_blocks.specs.Partition.{Span}
@@ -36,6 +36,7 @@ indented_line indent B m s = record {
   line = first_number (drop s.start B);
   text_line = number_or (first_number (drop s.start B)) (bar_lines B m s);
   text = joined (bar_lines B m s);
+  parts = first_parts (drop s.start B);
 }
 
 -- a line before others, which take its indentation where they have none; all constructs of such a run are lines

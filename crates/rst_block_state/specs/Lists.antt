@@ -1,6 +1,6 @@
 -- Lists and their items (Markup Specification, 'Bullet Lists', 'Enumerated Lists', 'Definition Lists', 'Field Lists', 'Option Lists').
 use Rattle.std.specs.Prelude.{ℕ, ◌+◌, ◌==◌, List, [], ◌∷◌, ◌++◌, drop, map, slice_range, option_map, if◌then◌else◌}
-use Rattle.rst_text.specs.Block.{Block, first_text, first_number}
+use Rattle.rst_text.specs.Block.{Block, first_text, first_number, first_parts}
 use Rattle.rst_tree.specs.Forest.{bare}
 use Rattle.rst_tree.specs.declared.node.Node.{Node}
 use Rattle.rst_tree.specs.declared.node.Node.TheVariants.{Element}
@@ -53,13 +53,13 @@ option_group t line = element_of OptionGroup [] (map (option_element t line) (op
 -- an item of a definition list: the term and the classifiers in line i, with which X begins, and the indented block below it
 abbrev pub definition : Within → Block → ℕ → Block → Numbered (List Node)
 definition c B i X = do
-  made ← termed (first_text X) (first_number X)
+  made ← termed (first_parts X) (first_text X) (first_number X)
   item_with c B DefinitionListItem Definition (first_number X) (indented_part (i + 1) (drop 1 X)) made.0 made.1
 
 -- a field: its name, and the hanging block of its marker
 abbrev pub field : Within → Block → ℕ → FieldMark → Block → Numbered (List Node)
 field c B i m X = do
-  made ← texted FieldName (first_number X) (slice_range (first_text X) m.name.from m.name.to) (first_number X)
+  made ← texted (first_parts X) FieldName (first_number X) (slice_range (first_text X) m.name.from m.name.to) (first_number X)
   item_with c B Field FieldBody (first_number X) (hanging i m.marker X) (made.0 ∷ []) made.1
 
 -- an item of an option list: its options, and the hanging block of their marker

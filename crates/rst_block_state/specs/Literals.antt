@@ -2,7 +2,8 @@
 -- Blocks').
 use Rattle.std.specs.Prelude.{ℕ, ◌-◌, ◌||◌, ◌==◌, nat_lt, List, [], ◌∷◌, ◌++◌, drop, take, length, codes, Option, Some, None, if◌then◌else◌}
 use Rattle.std.specs.Str.{drop_trailing_whitespace}
-use Rattle.rst_text.specs.Block.{Block, first_text, first_number, is_blank}
+use Rattle.rst_settings.specs.declared.Parts.{Parts}
+use Rattle.rst_text.specs.Block.{Block, first_text, first_number, is_blank, first_parts}
 use Rattle.rst_text.specs.Extent.{extent}
 use Rattle.rst_tree.specs.declared.node.Node.{Node}
 use Rattle.rst_tree.specs.declared.note.Level.TheVariants.{Warning, Error}
@@ -70,10 +71,10 @@ abbrev pub announced : List ℕ → List ℕ
 announced t = if ends_in_colons t then without_colons (take (length t - 2) t) else t
 
 -- a paragraph with a text, and the messages on the text; one without a text vanishes
-abbrev pub text_paragraph : ℕ → List ℕ → Numbered (List Node)
-text_paragraph line [] = just []
-text_paragraph line (c ∷ cs) = do
-  made ← texted Paragraph line (c ∷ cs) line
+abbrev pub text_paragraph : Parts → ℕ → List ℕ → Numbered (List Node)
+text_paragraph parts line [] = just []
+text_paragraph parts line (c ∷ cs) = do
+  made ← texted parts Paragraph line (c ∷ cs) line
   just (made.0 ∷ made.1)
 
 -- what comes after a paragraph of n lines with this text, with which X begins: the ERROR at an indented line that follows it directly, and then
@@ -86,7 +87,7 @@ after_paragraph n t X =
 -- the paragraph with which X begins, after the messages that explain why its line is a text: its text runs to the next blank or indented line
 abbrev pub paragraph_nodes : List Node → Block → Numbered (List Node)
 paragraph_nodes infos X = do
-  nodes ← text_paragraph (first_number X) (announced (joined (take (paragraph_len X) X)))
+  nodes ← text_paragraph (first_parts X) (first_number X) (announced (joined (take (paragraph_len X) X)))
   just (infos ++ nodes ++ after_paragraph (paragraph_len X) (joined (take (paragraph_len X) X)) X)
 
 -- ---- doctest blocks

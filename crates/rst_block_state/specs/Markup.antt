@@ -1,6 +1,6 @@
 -- Explicit markup (Markup Specification, 'Explicit Markup Blocks', 'Footnotes', 'Citations', 'Hyperlink Targets', 'Comments').
 use Rattle.std.specs.Prelude.{ℕ, List, [], ◌∷◌, drop, codes, Some, None}
-use Rattle.rst_text.specs.Block.{Block, first_text, first_number}
+use Rattle.rst_text.specs.Block.{Block, first_text, first_number, first_parts}
 use Rattle.rst_tree.specs.declared.node.Node.{Node}
 use Rattle.rst_tree.specs.declared.note.Level.TheVariants.{Warning}
 use Rattle.rst_tree.specs.declared.tag.Tag.TheVariants.{Comment as CommentTag}
@@ -44,8 +44,8 @@ abbrev pub markup_by : Explicit → Within → Block → Span → Block → Numb
 markup_by (Footnote label body) c B s X = noted c B (node_by_label_kind FootnoteLabel (excerpt (first_text X) label) (first_number X)) body
 markup_by (Citation label body) c B s X = noted c B (node_by_label_kind CitationLabel (excerpt (first_text X) label) (first_number X)) body
 markup_by (Target name text) c B s X =
-    just (target_node (Some (excerpt (first_text X) name)) (spelled (lines_in B text)) (first_number X) ∷ [])
-markup_by (Anonymous text) c B s X = just (target_node None (spelled (lines_in B text)) (first_number X) ∷ [])
+    just (target_node (first_parts X).mail (Some (excerpt (first_text X) name)) (spelled (lines_in B text)) (first_number X) ∷ [])
+markup_by (Anonymous text) c B s X = just (target_node (first_parts X).mail None (spelled (lines_in B text)) (first_number X) ∷ [])
 markup_by (Substitution name embedded end) c B s X = substitution_nodes c B s (excerpt (first_text X) name) embedded
 markup_by (Directive call) c B s X = directive_nodes c B s call
 markup_by (Comment text cause) c B s X =

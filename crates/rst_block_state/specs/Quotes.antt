@@ -1,6 +1,6 @@
 -- Block quotes with their attributions (Markup Specification, 'Block Quotes').
 use Rattle.std.specs.Prelude.{ℕ, zero, suc, ◌-◌, List, [], ◌∷◌, ◌++◌, drop, take, length, if◌then◌else◌, Option, Some, None, is_some, option_map, option_and_then}
-use Rattle.rst_text.specs.Block.{Block, first_number, is_blank}
+use Rattle.rst_text.specs.Block.{Block, first_number, is_blank, first_parts}
 use Rattle.rst_text.specs.Places.{first_from}
 use Rattle.rst_tree.specs.declared.node.Node.{Node}
 use Rattle.rst_tree.specs.declared.tag.Tag.TheVariants.{BlockQuote, Attribution as AttributionTag}
@@ -38,7 +38,7 @@ quotes_by c others Q None = do
   nodes ← c.inner Q
   just (quote_node Q nodes ∷ [])
 quotes_by c others Q (Some (k, a)) = do
-  made ← texted AttributionTag (first_number (drop k Q)) (joined (lines_in Q (attribution_part k a))) (first_number (drop k Q))
+  made ← texted (first_parts (drop k Q)) AttributionTag (first_number (drop k Q)) (joined (lines_in Q (attribution_part k a))) (first_number (drop k Q))
   nodes ← c.inner (take k Q)
   more ← others (quote_after Q a)
   just (quote_node Q (nodes ++ made.0 ∷ []) ∷ made.1 ++ more)

@@ -1,7 +1,8 @@
 -- Titles of sections, and transitions (Markup Specification, 'Sections', 'Transitions').
 use Rattle.std.specs.Prelude.{ℕ, Bool, true, false, List, [], ◌∷◌, ◌++◌, drop, codes, map, Option, Some, None, unwrap_or}
 use Rattle.std.specs.Option.{option_to_list}
-use Rattle.rst_text.specs.Block.{Block, first_text, first_number}
+use Rattle.rst_settings.specs.declared.Parts.{Parts}
+use Rattle.rst_text.specs.Block.{Block, first_text, first_number, first_parts}
 use Rattle.rst_tree.specs.Forest.{bare}
 use Rattle.rst_tree.specs.declared.node.Node.{Node}
 use Rattle.rst_tree.specs.declared.node.Node.TheVariants.{Element}
@@ -21,15 +22,15 @@ short_warning true line text lines = Some (message_with_lines Warning line text 
 short_warning false line text lines = None
 
 -- a title of a style, with the text of a line
-abbrev pub title_item : Style → List ℕ → ℕ → Option Node → List ℕ → Numbered (List Item)
-title_item style text line warning lines = do
-  made ← texted TitleTag line text line
+abbrev pub title_item : Parts → Style → List ℕ → ℕ → Option Node → List ℕ → Numbered (List Item)
+title_item parts style text line warning lines = do
+  made ← texted parts TitleTag line text line
   just (titled (record { style = style; element = made.0; notes = made.1; warning = warning; line = line; source = lines }) ∷ [])
 
 -- a title between its overline and its underline; these are its lines, and X begins with them. Its text is without its indentation.
 abbrev pub overlined_nodes : Adornment → Bool → List ℕ → Block → Numbered (List Item)
 overlined_nodes mark short lines X =
-    title_item (record { character = mark.character; overlined = true }) (unindented (next_text X)) (first_number (drop 1 X))
+    title_item (first_parts X) (record { character = mark.character; overlined = true }) (unindented (next_text X)) (first_number (drop 1 X))
     (short_warning short (first_number X) (codes "Title overline too short.") lines) lines
 
 -- the WARNING on an underline; it has the number of the underline
@@ -40,7 +41,7 @@ underline_warning short lines X = short_warning short (first_number (drop 1 X)) 
 -- WARNING on the underline.
 abbrev pub underline_item : Bool → Bool → List ℕ → Block → Numbered (List Item)
 underline_item true short lines X =
-    title_item (record { character = unwrap_or (first (next_text X)) 32; overlined = false }) (first_text X) (first_number X)
+    title_item (first_parts X) (record { character = unwrap_or (first (next_text X)) 32; overlined = false }) (first_text X) (first_number X)
     (underline_warning short lines X) lines
 underline_item false short lines X =
     just (map plain (option_to_list (underline_warning short lines X)

@@ -5,12 +5,14 @@ ghost use Rattle.rst_block_state.specs.Titles.{short_warning, title_item, titled
 
 use super::texts::Pass;
 use rst_block_nodes::{Heading, Style, message, with_text};
+use rst_settings::Parts;
 use rst_tree::{Level, Node, Tag};
 use rst_tree_index::MarkedNodes;
 use std::alloc::{AllocError, Global};
 
 /// A title with this text, and no nodes before it.
 pub fn heading_of(
+    parts: Parts,
     style: Style,
     text: &str,
     line: usize,
@@ -18,11 +20,12 @@ pub fn heading_of(
     source: String,
     pass: &mut Pass,
 ) -> Result<Heading, AllocError>
-    ensures title { IfOk result (λ heading. title_item style (chars text.now) line warning (string_bytes source) pass.old.numbers
+    ensures title { IfOk result (λ heading. title_item parts style (chars text.now) line warning (string_bytes source) pass.old.numbers
         ≡ Ok (titled (title_of heading) ∷ [], pass.new.numbers)) }
     ensures looks { pass.new.looks ≡ pass.old.looks }
 {
-    let title = with_text(pass.alloc, Tag::Title, line, text, line, &mut pass.numbers)?;
+    let numbers = &mut pass.numbers;
+    let title = with_text(pass.alloc, parts, Tag::Title, line, text, line, numbers)?;
     Ok(Heading {
         nodes: MarkedNodes::none(pass.alloc),
         style,

@@ -14,7 +14,8 @@ use Rattle.rst_settings.specs.declared.Settings.{Settings}
 use Rattle.rst_text.specs.Text.{text_of}
 use Rattle.rst_tree.specs.declared.node.Node.{Node}
 use Rattle.rst_tree.specs.declared.note.Note.{Note}
-use Rattle.rst2pseudoxml_run.specs.Reading.{lines_under, read_of}
+use Rattle.rst2pseudoxml_options.specs.declared.format.Format.TheVariants.{PseudoXml}
+use Rattle.rst2pseudoxml_run.specs.Reading.{held, lines_under, read_of}
 use Rattle.rst2pseudoxml_run.specs.RunResult.{Parts, parts_of, result_of, result_of_read, result_of_text}
 use Rattle.rst2pseudoxml_run.specs.declared.end.End.{End}
 use Rattle.rst2pseudoxml_run.specs.declared.end.End.TheVariants.{Done, Read, TooLong, NotUtf8, TooDeep, NoMemory, WriteErr, WriteOut}
@@ -29,8 +30,9 @@ module _ (makes : Node × List Note → Parts) (settings : Settings) (bytes : Li
   text_needs None = refl
   text_needs (Some text) = read_needs (read_of (profile_of settings) (lines_under settings text))
 
+module _ (makes : Node × List Note → Parts) (settings : Settings) (bytes : List ℕ) where
   short_needs : length bytes ≤ 16777216 → needs_memory (made_by makes (left_of settings bytes)) ≡ true
-  short_needs short = rw (le-ltb 16777216 (length bytes) short) (text_needs (text_of bytes))
+  short_needs short = rw (le-ltb 16777216 (length bytes) short) (text_needs makes (held settings (text_of bytes)) bytes (text_of bytes))
 
   -- a call makes nothing of a text of which no document was found
   pub nothing_made : (end : End) → Finds settings bytes (Err end) → MakesWanted (made_by makes (left_of settings bytes)) (Err (Text end))
@@ -46,38 +48,39 @@ module _ (makes : Node × List Note → Parts) (settings : Settings) (bytes : Li
 -- the program prints what is left of a text
 module _ (settings : Settings) (source bytes : List ℕ) where
   abbrev pub shows : Node × List Note → Parts
-  shows left = parts_of settings source left.0 left.1
+  shows left = parts_of PseudoXml settings source left.0 left.1
 
-  read_wanted : (read : Result (Node × ℕ) ℕ) → wanted_of (result_of_read (profile_of settings) settings source read) ≡ made_by shows (left_of_read settings read)
+  read_wanted : (read : Result (Node × ℕ) ℕ) → wanted_of (result_of_read PseudoXml (profile_of settings) settings source read) ≡ made_by shows (left_of_read settings read)
   read_wanted (Ok read) = refl
   read_wanted (Err line) = refl
 
-  text_wanted : (text : Option (List ℕ)) → wanted_of (result_of_text (profile_of settings) settings source bytes text) ≡ made_by shows (left_of_text settings bytes text)
+  text_wanted : (text : Option (List ℕ)) → wanted_of (result_of_text PseudoXml (profile_of settings) settings source bytes text) ≡ made_by shows (left_of_text settings bytes text)
   text_wanted None = refl
   text_wanted (Some text) = read_wanted (read_of (profile_of settings) (lines_under settings text))
 
-  left_wanted : wanted_of (result_of (profile_of settings) settings source bytes) ≡ made_by shows (left_of settings bytes)
+module _ (settings : Settings) (source bytes : List ℕ) where
+  left_wanted : wanted_of (result_of PseudoXml (profile_of settings) settings source bytes) ≡ made_by (shows settings source bytes) (left_of settings bytes)
   left_wanted =
-      elim (nat_lt 16777216 (length bytes)) as (λ b. wanted_of (if b then Err TooLong else result_of_text (profile_of settings) settings source bytes (text_of bytes))
-      ≡ made_by shows (if b then Err TooLong else left_of_text settings bytes (text_of bytes))) [ true ↦ refl | false ↦ text_wanted (text_of bytes) ]
+      elim (nat_lt 16777216 (length bytes)) as (λ b. wanted_of (if b then Err TooLong else result_of_text PseudoXml (profile_of settings) (held settings (text_of bytes)) source bytes (text_of bytes))
+      ≡ made_by (shows settings source bytes) (if b then Err TooLong else left_of_text settings bytes (text_of bytes))) [ true ↦ refl | false ↦ text_wanted (text_of bytes) ]
 
   -- what is wanted of a print, where the source is UTF-8 and where it isn't
-  wanted_of_text : IsUtf8 source → print_wanted (Some settings) source bytes ≡ made_by shows (left_of settings bytes)
+  wanted_of_text : IsUtf8 source → print_wanted (Some settings) source bytes ≡ made_by (shows settings source bytes) (left_of settings bytes)
   wanted_of_text utf8 = rw (is_utf8-from_IsUtf8 source utf8) left_wanted
 
   pub source_refused : (IsUtf8 source → ⊥) → MakesWanted (print_wanted (Some settings) source bytes) (Err Source)
   source_refused refuted = inl (rw (false_from_ne_true (is_utf8 source) (λ is. refuted (IsUtf8-from_is_utf8 source is))) refl)
 
   pub text_refused : (end : End) → IsUtf8 source → Finds settings bytes (Err end) → MakesWanted (print_wanted (Some settings) source bytes) (Err (Text end))
-  text_refused end utf8 finds = subst (λ w. MakesWanted w (Err (Text end))) (sym (wanted_of_text utf8)) (nothing_made shows settings bytes end finds)
+  text_refused end utf8 finds = subst (λ w. MakesWanted w (Err (Text end))) (sym (wanted_of_text utf8)) (nothing_made (shows settings source bytes) settings bytes end finds)
 
-  made_of_left : (document : Node) (notes : List Note) → IsUtf8 source → left_of settings bytes ≡ Ok (document, notes) → print_wanted (Some settings) source bytes ≡ Ok (parts_of settings source document notes)
-  made_of_left document notes utf8 left = wanted_of_text utf8 ∙ ap (made_by shows) left
+  made_of_left : (document : Node) (notes : List Note) → IsUtf8 source → left_of settings bytes ≡ Ok (document, notes) → print_wanted (Some settings) source bytes ≡ Ok (parts_of PseudoXml settings source document notes)
+  made_of_left document notes utf8 left = wanted_of_text utf8 ∙ ap (made_by (shows settings source bytes)) left
 
   pub text_printed : (document : Node) (notes : List Note) (same_source old_out old_err out err : List ℕ) (status : ℕ) → IsUtf8 source → left_of settings bytes ≡ Ok (document, notes)
       → same_source ≡ source → old_out ≡ [] → old_err ≡ []
-      → out ≡ old_out ++ (parts_of settings same_source document notes).out → err ≡ old_err ++ (parts_of settings same_source document notes).err
-      → status ≡ (parts_of settings same_source document notes).status → MakesWanted (print_wanted (Some settings) source bytes) (Ok (record { out = out; err = err; status = status }))
+      → out ≡ old_out ++ (parts_of PseudoXml settings same_source document notes).out → err ≡ old_err ++ (parts_of PseudoXml settings same_source document notes).err
+      → status ≡ (parts_of PseudoXml settings same_source document notes).status → MakesWanted (print_wanted (Some settings) source bytes) (Ok (record { out = out; err = err; status = status }))
   text_printed document notes same_source old_out old_err out err status utf8 left same no_out no_err out_is err_is status_is =
       inl (sym (made_of_left document notes utf8 left ∙ rw (out_is, err_is, status_is, no_out, no_err, same) refl))
 

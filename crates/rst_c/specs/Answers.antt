@@ -22,7 +22,8 @@ use Rattle.rst_transform_messages.specs.Messages.{highest_level}
 use Rattle.rst_tree.specs.PrintedAttributes.{with_printed_attrs}
 use Rattle.rst_tree.specs.declared.node.Node.{Node}
 use Rattle.rst_tree.specs.declared.note.Note.{Note}
-use Rattle.rst2pseudoxml_run.specs.Reading.{lines_under, read_of}
+use Rattle.rst2pseudoxml_options.specs.declared.format.Format.TheVariants.{PseudoXml}
+use Rattle.rst2pseudoxml_run.specs.Reading.{held, lines_under, read_of}
 use Rattle.rst2pseudoxml_run.specs.RunResult.{Parts, ended_by, halting, is_reported, result_of}
 use Rattle.rst2pseudoxml_run.specs.declared.end.End.{End}
 use Rattle.rst2pseudoxml_run.specs.declared.end.End.TheVariants.{TooLong, NotUtf8, TooDeep, NoMemory}
@@ -43,7 +44,8 @@ left_of_text settings bytes (Some text) = left_of_read settings (read_of (profil
 
 -- what is left of some bytes
 abbrev pub left_of : Settings → List ℕ → Left
-left_of settings bytes = if nat_lt 16777216 (length bytes) then Err TooLong else left_of_text settings bytes (text_of bytes)
+left_of settings bytes =
+    let text = text_of bytes in if nat_lt 16777216 (length bytes) then Err TooLong else left_of_text (held settings text) bytes text
 
 -- ---- what a call makes of it: two texts and a status
 
@@ -77,7 +79,7 @@ wanted_of (Err end) = Err (Text end)
 -- what the program prints for a text
 abbrev pub print_wanted : Option Settings → List ℕ → List ℕ → Wanted
 print_wanted None source text = Err Options
-print_wanted (Some settings) source text = if is_utf8 source then wanted_of (result_of (profile_of settings) settings source text) else Err Source
+print_wanted (Some settings) source text = if is_utf8 source then wanted_of (result_of PseudoXml (profile_of settings) settings source text) else Err Source
 
 -- ---- what is reported to the caller
 

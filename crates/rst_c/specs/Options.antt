@@ -17,7 +17,7 @@ are_in_range options =
     && is_within 1 options.tab_width 99 && is_within 1 options.line_length_limit 16777216
     && nat_le options.no_doc_title 1 && nat_le options.no_doc_info 1 && nat_le options.profile 1 && (options.unused == 0)
 
--- the parts of the markup that a profile has, by its number: 0 has none, 1 has all
+-- the parts of the wider profile that a profile has, by its number: 0 has none, 1 has all
 abbrev pub parts_of_profile : ℕ → Parts
 parts_of_profile number = if number == 0 then no_parts else all_parts
 

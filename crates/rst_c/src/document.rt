@@ -11,6 +11,7 @@ use rst_settings::Settings;
 use rst_text::Counted;
 use rst_transform::Finished;
 use rst_tree::Note;
+use rst2pseudoxml_options::Format;
 use rst2pseudoxml_run::{End, document_of, halting, is_reported, show, status_of};
 use std::alloc::{AllocError, Global};
 
@@ -35,6 +36,7 @@ pub fn printed(
     match show(
         alloc,
         &settings,
+        Format::PseudoXml,
         source,
         &finished,
         &mut tree,

@@ -25,7 +25,7 @@ pub struct RstOptions {
     pub no_doc_title: u8,
     /// 1 if a leading field list doesn't become bibliographic elements, else 0.
     pub no_doc_info: u8,
-    /// The profile: 1 is the one with every part of the markup that can be asked for, 0 the one without them.
+    /// The profile: 1 is the one with every part of the wider profile that can be asked for, 0 the one without them.
     pub profile: u8,
     /// 0.
     pub unused: u8,
@@ -90,7 +90,7 @@ fn threshold_of(number: u8) -> Threshold
     }
 }
 
-/// The parts of the markup that a profile, by its number 0 or 1, has.
+/// The parts of the wider profile that a profile, by its number 0 or 1, has.
 fn parts_of_profile(number: u8) -> Parts
     ensures { result ≡ parts_of_profile number }
 {

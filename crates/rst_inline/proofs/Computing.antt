@@ -6,5 +6,5 @@ unfolding
     Rattle.rst_inline_scan.proofs.Computing.rst_inline_scan Rattle.rst_inline.specs.Embedded.opens_angle Rattle.rst_inline.specs.Embedded.ends_with
     Rattle.rst_inline.specs.Embedded.last_angle Rattle.rst_inline.specs.Embedded.fits_angle Rattle.rst_inline.specs.Embedded.embedded_at
     Rattle.rst_inline.specs.Embedded.dark_end Rattle.rst_inline.specs.Embedded.is_alias Rattle.rst_inline.specs.Readings.reading
-    Rattle.rst_inline.specs.Roles.role_tag
+    Rattle.rst_inline.specs.Roles.role_named Rattle.rst_inline.specs.Roles.is_wider_role
 rst_inline = tt

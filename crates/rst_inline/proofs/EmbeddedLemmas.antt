@@ -8,7 +8,7 @@ use Rattle.rst_text.specs.Places.{last_from, IsLast}
 use Rattle.rst_text.proofs.PlacesLemmas.{last_from-is}
 use Rattle.rst_text.specs.Escapes.{is_escaped, unescaped}
 use Rattle.rst_text.proofs.EscapeLemmas.{unescaped_from, unescaped-read}
-use Rattle.rst_inline.specs.Embedded.{opens_angle, ends_with, last_angle, fits_angle, embedded_at, dark_end, enclosed, is_alias, meant, phrase_display_text}
+use Rattle.rst_inline.specs.Embedded.{opens_angle, ends_with, last_angle, embedded_at, dark_end, enclosed, is_alias, meant, phrase_display_text}
 use Rattle.rst_inline.specs.Readings.{embedded_reading, phrase_reading_at, phrase_reading}
 use Rattle.rst_inline_scan.specs.declared.piece.Suffix.{Suffix}
 use Rattle.rst_inline.specs.Parts.{part, content}
@@ -106,8 +106,8 @@ before-part t p end within h =
     let from : p.content_from + 0 ≡ p.content_from = omega arith in
     sym (part-part t p.content_from p.content_to 0 end (omega (arith, length-part t p.content_from p.content_to ends)) ∙ ap (λ from. part t from (p.content_from + end)) from)
 
-pub phrase-embedded : (suffix : Suffix) (from phrase source display_text meaning : Text) (place line : ℕ) (alias : Bool) → source ≡ from → display_text ≡ phrase_display_text phrase place
-    → meaning ≡ meant (enclosed phrase place) → alias ≡ is_alias (enclosed phrase place) → Some place ≡ embedded_at phrase
-    → embedded_reading suffix source display_text meaning alias line ≡ phrase_reading suffix from phrase line
-phrase-embedded suffix from phrase source display_text meaning place line alias first second third fourth at =
-    rw (first, second, third, fourth) (ap (λ place. phrase_reading_at suffix from phrase place line) at)
+pub phrase-embedded : (mail : Bool) (suffix : Suffix) (from phrase source display_text meaning : Text) (place line : ℕ) (alias : Bool) → source ≡ from → display_text ≡ phrase_display_text mail phrase place
+    → meaning ≡ meant mail (enclosed phrase place) → alias ≡ is_alias (enclosed phrase place) → Some place ≡ embedded_at phrase
+    → embedded_reading suffix source display_text meaning alias line ≡ phrase_reading mail suffix from phrase line
+phrase-embedded mail suffix from phrase source display_text meaning place line alias first second third fourth at =
+    rw (first, second, third, fourth) (ap (λ place. phrase_reading_at mail suffix from phrase place line) at)

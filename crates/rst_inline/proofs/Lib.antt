@@ -4,3 +4,6 @@ pub mod Orders
 pub mod EmbeddedLemmas
 pub mod WrittenLemmas
 pub mod QuietLemmas
+pub mod MailLemmas
+pub mod NumberLemmas
+pub mod RoleLemmas

@@ -1,6 +1,7 @@
 -- What a quiet text means: one text as it is written.
 use Rattle.std.proofs.Common.{◌≡◌, ℕ, ◌++◌, [], ◌∷◌, true, length, refl, sym, ap, ◌∙◌, arith}
 use Rattle.std.proofs.lemmas.List.{take_all}
+use Rattle.rst_settings.specs.declared.Parts.{Parts}
 use Rattle.rst_tree.specs.Nodes.{nodes_of}
 use Rattle.rst_text.specs.Characters.{Text}
 use Rattle.rst_text.specs.Escapes.{unescaped}
@@ -20,21 +21,21 @@ abbrev all_of : Text → Piece
 all_of t = plain_from 0 (length t)
 
 -- it means the text itself
-reading-all : (t : Text) (line : ℕ) → quiet t ≡ true → reading t line (all_of t) ≡ plain_reading t
+reading-all : (parts : Parts) (t : Text) (line : ℕ) → quiet parts.mail t ≡ true → reading parts t line (all_of t) ≡ plain_reading t
 unfolding reading
-reading-all t line h =
+reading-all parts t line h =
     let written : source t (all_of t) ≡ t = take_all (length t) t (omega arith) in
-    ap plain_reading (ap unescaped written ∙ unescaped-plain t (quiet-plain t h))
+    ap plain_reading (ap unescaped written ∙ unescaped-plain t (quiet-plain parts.mail t h))
 
-pub quiet-nodes : (t : Text) (line first : ℕ) → quiet t ≡ true → nodes_of (text_children t) ≡ nodes_from t line first (whole t)
-quiet-nodes [] line first h = refl
-quiet-nodes (c ∷ cs) line first h = sym (ap (λ m. nodes_by m first (source (c ∷ cs) (all_of (c ∷ cs))) line ++ []) (reading-all (c ∷ cs) line h))
+pub quiet-nodes : (parts : Parts) (t : Text) (line first : ℕ) → quiet parts.mail t ≡ true → nodes_of (text_children t) ≡ nodes_from parts t line first (whole t)
+quiet-nodes parts [] line first h = refl
+quiet-nodes parts (c ∷ cs) line first h = sym (ap (λ m. nodes_by m first (source (c ∷ cs) (all_of (c ∷ cs))) line ++ []) (reading-all parts (c ∷ cs) line h))
 
-quiet-notes : (t : Text) (line : ℕ) → quiet t ≡ true → [] ≡ notes_of t line (whole t)
-quiet-notes [] line h = refl
-quiet-notes (c ∷ cs) line h = sym (ap (λ m. notes_by m line ++ []) (reading-all (c ∷ cs) line h))
+quiet-notes : (parts : Parts) (t : Text) (line : ℕ) → quiet parts.mail t ≡ true → [] ≡ notes_of parts t line (whole t)
+quiet-notes parts [] line h = refl
+quiet-notes parts (c ∷ cs) line h = sym (ap (λ m. notes_by m line ++ []) (reading-all parts (c ∷ cs) line h))
 
 -- what was read of a quiet text
-pub quiet-read : (t : Text) (line first : ℕ) (read : Pieces) → quiet t ≡ true → read.nodes.items ≡ nodes_of (text_children t) → read.notes.items ≡ [] → IsRead t line first read
-quiet-read t line first read h nodes notes =
-    (whole t, quiet-pieces t h, record { nodes = nodes ∙ quiet-nodes t line first h; notes = notes ∙ quiet-notes t line h })
+pub quiet-read : (parts : Parts) (t : Text) (line first : ℕ) (read : Pieces) → quiet parts.mail t ≡ true → read.nodes.items ≡ nodes_of (text_children t) → read.notes.items ≡ [] → IsRead parts t line first read
+quiet-read parts t line first read h nodes notes =
+    (whole t, quiet-pieces parts.mail t h, record { nodes = nodes ∙ quiet-nodes parts t line first h; notes = notes ∙ quiet-notes parts t line h })

@@ -1,12 +1,12 @@
 -- Characters and the texts that they spell.
-use Rattle.std.proofs.Common.{◌≡◌, ℕ, ◌+◌, ◌-◌, ◌≤◌, ◌==◌, true, false, List, [], ◌∷◌, ◌++◌, length, take, drop, min, refl, sym, ap, ◌∙◌, arith}
+use Rattle.std.proofs.Common.{◌≡◌, ℕ, ◌+◌, ◌-◌, ◌≤◌, ◌==◌, true, false, List, [], ◌∷◌, ◌++◌, length, take, drop, min, refl, sym, ap, ap₂, ◌∙◌, arith}
 use Rattle.std.specs.Prelude.{string_bytes, encode_utf8_all}
 use Rattle.std.specs.declared.string.String.{String}
 use Rattle.std.specs.Str.{chars, IsUtf8}
 use Rattle.std.proofs.Math.Nat.{min-le_right}
 use Rattle.std.proofs.lemmas.Bool.{eqb-true}
 use Rattle.std.proofs.lemmas.List.{append-nil, drop_all, drop-take, take_min, drop_min, length-take, nil_from_length}
-use Rattle.std.proofs.lemmas.Str.{chars_from_encodes, encodes-chars, IsUtf8-string_bytes}
+use Rattle.std.proofs.lemmas.Str.{chars_from_encodes, encodes-append, encodes-chars, IsUtf8-string_bytes}
 use Rattle.rst_tree.specs.Forest.{bare, words}
 use Rattle.rst_tree.specs.declared.node.Node.TheVariants.{Text as Words}
 use Rattle.rst_text.specs.Characters.{Text}
@@ -29,6 +29,10 @@ part_is t low high h l top bottom =
 -- the characters of a text that some characters spell
 pub chars-text_bytes : {A : Type 0} (s : String A) (cs : Text) → string_bytes s ≡ text_bytes cs → chars (string_bytes s) ≡ cs
 chars-text_bytes s cs e = sym (chars_from_encodes cs (string_bytes s) (IsUtf8-string_bytes s) (sym e))
+
+-- the bytes of two texts, one after the other
+pub joined : (a b : Text) (xs ys : List ℕ) → xs ≡ text_bytes a → ys ≡ text_bytes b → xs ++ ys ≡ text_bytes (a ++ b)
+joined a b xs ys first second = ap₂ (λ xs ys. xs ++ ys) first second ∙ sym (encodes-append a b)
 
 -- what is written when no character is left is all
 pub all-written : (out : List ℕ) (cs : Text) (i : ℕ) → length cs ≤ i → out ++ encode_utf8_all (drop i cs) ≡ text_bytes cs → out ≡ text_bytes cs

@@ -1,5 +1,5 @@
 -- The elements of inline markup (Document Tree, 'Inline Elements').
-use Rattle.std.specs.Prelude.{ℕ, Bool, ◌&&◌, ◌==◌, nat_le, List, [], ◌∷◌, if◌then◌else◌}
+use Rattle.std.specs.Prelude.{ℕ, Bool, ◌&&◌, ◌==◌, nat_le, List, [], ◌∷◌, codes, if◌then◌else◌}
 use Rattle.std.specs.List.{list_all}
 use Rattle.rst_text.specs.Names.{name_of, normalized_white}
 use Rattle.rst_tree.specs.Attributes.{attr}
@@ -7,15 +7,16 @@ use Rattle.rst_tree.specs.Forest.{Forest, bare, words}
 use Rattle.rst_tree.specs.Nodes.{forest_of}
 use Rattle.rst_tree.specs.declared.attrs.Attr.{Attr}
 use Rattle.rst_tree.specs.declared.attrs.Value.{Value}
-use Rattle.rst_tree.specs.declared.attrs.Value.TheVariants.{Text as TextValue, Number}
-use Rattle.rst_tree.specs.declared.key.Key.TheVariants.{Anonymous, Auto, Inline, Message, Name, OwnName, Rawsource, Refname, Refuri}
+use Rattle.rst_tree.specs.declared.attrs.Value.TheVariants.{Text as TextValue, Number, List as Listed}
+use Rattle.rst_tree.specs.declared.key.Key.TheVariants.{Anonymous, Auto, Classes, Inline, Message, Name, OwnName, Rawsource, Refname, Refuri}
 use Rattle.rst_tree.specs.declared.node.Node.{Node}
 use Rattle.rst_tree.specs.declared.node.Node.TheVariants.{Element}
 use Rattle.rst_tree.specs.declared.tag.Tag.{Tag}
-use Rattle.rst_tree.specs.declared.tag.Tag.TheVariants.{Target, Reference, SubstitutionReference, FootnoteReference, CitationReference, Problematic}
+use Rattle.rst_tree.specs.declared.tag.Tag.TheVariants.{Target, Reference, SubstitutionReference, FootnoteReference, CitationReference, Literal, Problematic}
 use Rattle.rst_text.specs.Characters.{Text}
 use Rattle.rst_inline_scan.specs.declared.piece.Suffix.{Suffix}
 use Rattle.rst_inline_scan.specs.declared.piece.Suffix.TheVariants.{Bare, Anonymous as Nameless}
+use Rattle.rst_inline.specs.Mail.{uri_of_address}
 use Rattle.rst_inline.specs.Parts.{text_bytes}
 
 -- an attribute whose value is a text
@@ -43,9 +44,17 @@ reference_attrs _ source display_text name = attr Name (text_value (normalized_w
 abbrev pub reference_node : Suffix → Text → Text → Text → ℕ → Node
 reference_node suffix source display_text name line = text_element Reference (reference_attrs suffix source display_text name) display_text line
 
+-- a reference to a URI that shows a text
+abbrev pub link_node : Text → Text → Text → ℕ → Node
+link_node source uri display_text line = text_element Reference (attr Rawsource (text_value source) ∷ attr Refuri (text_value uri) ∷ []) display_text line
+
 -- a standalone URI
 abbrev pub uri_node : Text → ℕ → Node
-uri_node source line = text_element Reference (attr Rawsource (text_value source) ∷ attr Refuri (text_value source) ∷ []) source line
+uri_node source line = link_node source source source line
+
+-- an e-mail address, which is shown without its escapes
+abbrev pub address_node : Text → Text → ℕ → Node
+address_node source address line = link_node source (uri_of_address address) address line
 
 -- a phrase with an embedded URI
 abbrev pub embedded_node : Text → Text → Text → ℕ → Node
@@ -113,6 +122,12 @@ label_reference_node source [] line = manual_reference_node source [] line
 label_reference_node source (c ∷ cs) line =
     if c == 35 then autonumbered_reference_node source cs line
     else (if c == 42 then autosymbol_reference_node source line else manual_reference_node source (c ∷ cs) line)
+
+-- ---- program code
+
+-- program code, which has the class of the directive for it
+abbrev pub code_node : Text → ℕ → Node
+code_node written line = text_element Literal (attr Classes (Listed (codes "code" ∷ [])) ∷ []) written line
 
 -- ---- problems
 

@@ -3,6 +3,7 @@ use Rattle.std.specs.Prelude.{ℕ, ◌+◌, ◌-◌, Bool, not, ◌&&◌, ◌||�
 use Rattle.rst_text.specs.Characters.{is_white, Text, has, without_white, is_dark}
 use Rattle.rst_text.specs.Places.{last_from}
 use Rattle.rst_text.specs.Escapes.{is_escaped, unescaped}
+use Rattle.rst_inline.specs.Mail.{mailed}
 use Rattle.rst_inline.specs.Parts.{part}
 
 -- an unescaped `<` is at the place
@@ -46,10 +47,10 @@ unfoldable pub is_alias : Text → Bool
 is_alias u = nat_lt 1 (length u) && ends_with u 95
 
 -- what an embedded URI or alias refers to: the alias without its underscore, or the URI without white; both without escapes
-abbrev pub meant : Text → Text
-meant u = if is_alias u then unescaped (part u 0 (length u - 1)) else without_white (unescaped u)
+abbrev pub meant : Bool → Text → Text
+meant mail u = if is_alias u then unescaped (part u 0 (length u - 1)) else mailed mail (without_white (unescaped u))
 
 -- what is displayed of the phrase: without white before the `<` and without escapes, or, where nothing comes before it, what it
 -- refers to
-abbrev pub phrase_display_text : Text → ℕ → Text
-phrase_display_text t k = if k == 0 then meant (enclosed t k) else unescaped (part t 0 (dark_end t k))
+abbrev pub phrase_display_text : Bool → Text → ℕ → Text
+phrase_display_text mail t k = if k == 0 then meant mail (enclosed t k) else unescaped (part t 0 (dark_end t k))

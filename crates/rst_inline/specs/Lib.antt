@@ -1,7 +1,9 @@
 pub mod Parts
 pub mod Roles
+pub mod Mail
 pub mod Embedded
 pub mod Elements
+pub mod Numbers
 pub mod Readings
 pub mod Results
 pub mod Reads

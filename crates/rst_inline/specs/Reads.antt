@@ -2,6 +2,8 @@
 use Prim.Native.String.{String}
 use Rattle.std.specs.Prelude.{◌≡◌, ℕ, ◌+◌, List, [], ◌∷◌, ◌++◌, map, codes, encode_utf8_all}
 use Rattle.std.specs.List.{flat_map}
+use Rattle.rst_settings.specs.Parts.{no_parts, all_parts}
+use Rattle.rst_settings.specs.declared.Parts.{Parts}
 use Rattle.rst_text.specs.Written.{written}
 use Rattle.rst_tree.specs.declared.attrs.Attr.{Attr}
 use Rattle.rst_tree.specs.declared.note.Note.{Note}
@@ -35,9 +37,17 @@ abbrev pub message_line : Note → PrintedLine
 message_line note = (0, level_name note.level ++ codes ": " ++ note.text)
 
 -- the lines of the nodes and then of the messages of pieces of a text
-abbrev pub printed_lines : Text → List Piece → List PrintedLine
-printed_lines t pieces = lines_of_all 0 (forest_of (nodes_from t 1 0 pieces)) ++ map message_line (notes_of t 1 pieces)
+abbrev pub printed_lines : Parts → Text → List Piece → List PrintedLine
+printed_lines parts t pieces = lines_of_all 0 (forest_of (nodes_from parts t 1 0 pieces)) ++ map message_line (notes_of parts t 1 pieces)
 
 -- a text means the nodes, and then the messages, that these lines show
+abbrev pub ShowsBy : Parts → String → List String → Type 0
+ShowsBy parts text lines = printed (printed_lines parts (codes text) (pieces_of parts.mail (codes text))) ≡ encode_utf8_all (written lines)
+
+-- so it does in the base
 abbrev pub Shows : String → List String → Type 0
-Shows text lines = printed (printed_lines (codes text) (pieces_of (codes text))) ≡ encode_utf8_all (written lines)
+Shows text lines = ShowsBy no_parts text lines
+
+-- so it does in the wider profile
+abbrev pub ShowsWider : String → List String → Type 0
+ShowsWider text lines = ShowsBy all_parts text lines

@@ -1,6 +1,7 @@
 -- What an inline text means (Markup Specification, 'Inline Markup'; Document Tree, 'problematic').
 use Rattle.std.specs.Prelude.{◌≡◌, ℕ, List, [], ◌∷◌, ◌++◌, None}
 use Rattle.std.specs.List.{flat_map}
+use Rattle.rst_settings.specs.declared.Parts.{Parts}
 use Rattle.rst_tree.specs.Sends.{counted_on}
 use Rattle.rst_tree.specs.declared.node.Node.{Node}
 use Rattle.rst_tree.specs.declared.note.Note.{Note}
@@ -21,8 +22,8 @@ notes_by (Wrong level text) line = record { level = level; line = line; text = t
 notes_by _ line = []
 
 -- the messages of pieces in order
-abbrev pub notes_of : Text → ℕ → List Piece → List Note
-notes_of t line pieces = flat_map (λ p. notes_by (reading t line p) line) pieces
+abbrev pub notes_of : Parts → Text → ℕ → List Piece → List Note
+notes_of parts t line pieces = flat_map (λ p. notes_by (reading parts t line p) line) pieces
 
 -- the nodes of a piece, where the next message has this number
 abbrev pub nodes_by : Meaning → ℕ → Text → ℕ → List Node
@@ -37,15 +38,15 @@ number_after (Wrong level text) number = counted_on number 1
 number_after _ number = number
 
 -- the nodes of pieces in order, where the next message has this number
-abbrev pub nodes_from : Text → ℕ → ℕ → List Piece → List Node
-nodes_from t line number [] = []
-nodes_from t line number (p ∷ ps) = nodes_by (reading t line p) number (source t p) line ++ nodes_from t line (number_after (reading t line p) number) ps
+abbrev pub nodes_from : Parts → Text → ℕ → ℕ → List Piece → List Node
+nodes_from parts t line number [] = []
+nodes_from parts t line number (p ∷ ps) = nodes_by (reading parts t line p) number (source t p) line ++ nodes_from parts t line (number_after (reading parts t line p) number) ps
 
 -- the nodes and the messages are those of the pieces
-pub record AreReadFromPieces (t : Text) (line first : ℕ) (pieces : List Piece) (read : Pieces) : Type 0 where
-  pub nodes : read.nodes.items ≡ nodes_from t line first pieces
-  pub notes : read.notes.items ≡ notes_of t line pieces
+pub record AreReadFromPieces (parts : Parts) (t : Text) (line first : ℕ) (pieces : List Piece) (read : Pieces) : Type 0 where
+  pub nodes : read.nodes.items ≡ nodes_from parts t line first pieces
+  pub notes : read.notes.items ≡ notes_of parts t line pieces
 
 -- They are those of the pieces of the text, of which there is exactly one list.
-abbrev pub IsRead : Text → ℕ → ℕ → Pieces → Type 0
-IsRead t line first read = (pieces : List Piece) × IsPieces t 0 pieces × AreReadFromPieces t line first pieces read
+abbrev pub IsRead : Parts → Text → ℕ → ℕ → Pieces → Type 0
+IsRead parts t line first read = (pieces : List Piece) × IsPieces parts.mail t 0 pieces × AreReadFromPieces parts t line first pieces read

@@ -6,7 +6,9 @@ use std::alloc::AllocError;
 mod elements;
 mod embedded;
 mod labels;
+mod mail;
 mod nodes;
+mod numbers;
 mod reading;
 mod references;
 mod roles;
@@ -14,6 +16,8 @@ pub mod rows;
 mod texts;
 mod written;
 
+pub use mail::mailto;
 pub use nodes::{Pieces, inline, inline_from};
+pub use roles::is_wider_role;
 pub use rst_inline_scan::plain_uri;
 pub use texts::{part, unescape};

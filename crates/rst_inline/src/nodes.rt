@@ -7,6 +7,7 @@ use super::elements::{problematic, text_nodes};
 use super::reading::Meaning;
 use super::written::Written;
 use rst_inline_scan::{Kind, Markup, Piece, Suffix, is_quiet};
+use rst_settings::Parts;
 use rst_tree::{Node, Note, Result};
 use std::alloc::Global;
 
@@ -19,30 +20,36 @@ pub struct Pieces {
 }
 
 /// The nodes and the messages of an inline text whose first line has the number `line` (Markup Specification, 'Inline
-/// Markup'). Every text has some. The messages are numbered from 0 on.
+/// Markup'), by the parts of the wider profile that hold in it. Every text has some. The messages are numbered from 0 on.
 ///
 /// The only refusal is [`AllocError`].
-pub fn inline(alloc: Global, text: &str, line: usize) -> Result<Pieces>
-    ensures { IfOk result (IsRead (chars text.now) line 0) }
+pub fn inline(alloc: Global, parts: Parts, text: &str, line: usize) -> Result<Pieces>
+    ensures { IfOk result (IsRead parts (chars text.now) line 0) }
 {
-    inline_from(alloc, text, line, 0)
+    inline_from(alloc, parts, text, line, 0)
 }
 
 /// What [`inline`] gives, with the messages numbered from `first` on.
 ///
 /// The only refusal is [`AllocError`].
-pub fn inline_from(alloc: Global, text: &str, line: usize, first: u64) -> Result<Pieces>
-    ensures { IfOk result (IsRead (chars text.now) line first) }
+pub fn inline_from(
+    alloc: Global,
+    parts: Parts,
+    text: &str,
+    line: usize,
+    first: u64,
+) -> Result<Pieces>
+    ensures { IfOk result (IsRead parts (chars text.now) line first) }
 {
     // A quiet text is one plain piece, so it is neither made characters nor scanned.
-    if is_quiet(text.as_bytes()) {
+    if is_quiet(parts.mail, text.as_bytes()) {
         let children = text_nodes(alloc, text)?;
         return Ok(Pieces {
             nodes: children.into_list(),
             notes: Vec::new(alloc),
         });
     }
-    let written = Written::of(alloc, text, line)?;
+    let written = Written::of(alloc, parts, text, line)?;
     let pieces = written.pieces()?;
     written.read(&pieces, first)
 }
@@ -54,7 +61,7 @@ impl Written<'_> {
     #[inline(never)]
     fn read(&self, pieces: &[Piece], first: u64) -> Result<Pieces>
         requires { All (IsWithin self.now.characters.items) pieces.now }
-        ensures { IfOk result (AreReadFromPieces self.now.characters.items self.now.line first pieces.now) }
+        ensures { IfOk result (AreReadFromPieces self.now.parts self.now.characters.items self.now.line first pieces.now) }
     {
         // A phrase reference may give two nodes, the second a target.
         let phrases = pieces

@@ -1,11 +1,13 @@
 //! What pieces mean.
-ghost use Rattle.std.specs.Prelude.{◌<◌, ◌≤◌, ◌+◌, ◌≡◌, [], length, IfOk, chars};
+ghost use Rattle.std.specs.Prelude.{◌<◌, ◌≤◌, ◌+◌, ◌≡◌, ◌++◌, [], true, length, IfOk, chars};
 ghost use Rattle.std.specs.Cow.{cow_str_bytes};
+ghost use Rattle.rst_text.specs.Characters.{without_white};
 ghost use Rattle.rst_text.specs.Escapes.{unescaped};
 ghost use Rattle.rst_inline_scan.specs.Pieces.{IsWithin};
-ghost use Rattle.rst_tree.specs.declared.tag.Tag.TheVariants.{Literal};
+ghost use Rattle.rst_tree.specs.Attributes.{are_keys_in_order};
+ghost use Rattle.rst_tree.specs.declared.note.Level.TheVariants.{Error};
 ghost use Rattle.rst_inline.specs.declared.reading.Meaning.TheVariants.{One, Wrong};
-ghost use Rattle.rst_inline.specs.Elements.{text_element, reference_node, inline_target_node, label_reference_node, substituted_node, uri_node};
+ghost use Rattle.rst_inline.specs.Elements.{text_element, reference_node, inline_target_node, label_reference_node, substituted_node, link_node, uri_node, address_node, code_node};
 ghost use Rattle.rst_inline.specs.Embedded.{meant, phrase_display_text};
 ghost use Rattle.rst_inline.specs.Parts.{part, source, content};
 ghost use Rattle.rst_inline.specs.Readings.{plain_meaning, plain_reading, embedded_reading, phrase_reading, role_reading, has_prefix_role, interpreted_reading, reading};
@@ -13,13 +15,14 @@ ghost use Rattle.rst_inline.specs.Readings.{plain_meaning, plain_reading, embedd
 use super::elements::element;
 use super::embedded::{dark_end, embedded_at, is_alias};
 use super::labels::{are_digits, numbered_footnote};
+use super::mail::{mailto, uri_of_address};
 use super::references::{embedded_reference, named_attrs, outer_reference, reference};
-use super::roles::role_tag;
+use super::roles::Role;
 use super::texts::{name_value, normalized_value, part, spell, text_value};
 use super::written::Written;
 use rst_inline_scan::{Kind, Markup, Piece, Suffix};
 use rst_text::{is_white, unescaped, without_white};
-use rst_tree::{Children, Entry, Key, Level, Node, Phrase, Result, Tag, Text, Value};
+use rst_tree::{Children, Entry, Key, Level, Node, Phrase, Result, Tag, Text, Texts, Value};
 use std::alloc::{AllocError, Global};
 use std::borrow::CowStr;
 
@@ -30,6 +33,14 @@ pub(crate) enum Meaning {
     One(Node),
     Two(Children),
     Wrong(Level, Text),
+}
+
+/// A role that gives an error, whose text is three, one after the other.
+fn wrong_role(alloc: Global, beginning: &str, name: &str, back: &str) -> Result<Meaning>
+    ensures { IfOk result (λ reading. reading ≡ Wrong Error (beginning.now ++ (name.now ++ back.now))) }
+{
+    let text = Text::of_three(alloc, beginning, name, back)?;
+    Ok(Meaning::Wrong(Level::Error, text))
 }
 
 impl Written<'_> {
@@ -59,14 +70,25 @@ impl Written<'_> {
         Ok(Meaning::One(node))
     }
 
+    /// An element that holds what the markup of a piece encloses as it is written.
     #[inline(never)]
-    fn literal(&self, piece: Piece) -> Result<Meaning>
-        ensures { IfOk result (λ reading. reading ≡ One (text_element Literal [] (content self.now.characters.items piece) self.now.line)) }
+    fn literal(&self, tag: Tag, attrs: Vec<Entry>, piece: Piece) -> Result<Meaning>
+        requires { are_keys_in_order attrs.items ≡ true }
+        ensures { IfOk result (λ reading. reading ≡ One (text_element tag attrs.items (content self.now.characters.items piece) self.now.line)) }
     {
         let display_text = self.part(piece.content_from, piece.content_to);
-        let attrs = Vec::new(self.alloc);
-        let node = element(self.alloc, Tag::Literal, attrs, display_text, self.line)?;
+        let node = element(self.alloc, tag, attrs, display_text, self.line)?;
         Ok(Meaning::One(node))
+    }
+
+    /// Program code.
+    fn code(&self, piece: Piece) -> Result<Meaning>
+        ensures { IfOk result (λ reading. reading ≡ One (code_node (content self.now.characters.items piece) self.now.line)) }
+    {
+        let class = Text::from_str(self.alloc, "code")?;
+        let classes = Value::List(Texts::lone(self.alloc, class));
+        let attrs = vec![in self.alloc; Entry::new(Key::Classes, classes)]?;
+        self.literal(Tag::Literal, attrs, piece)
     }
 
     #[inline(never)]
@@ -109,21 +131,36 @@ impl Written<'_> {
         Ok(Meaning::One(node))
     }
 
+    /// What is written between two places, without escapes and white.
+    #[inline(always)]
+    fn dark(&self, low: usize, high: usize) -> Result<CowStr<'_, Global>, AllocError>
+        ensures { IfOk result (λ dark. chars (cow_str_bytes dark) ≡ without_white (unescaped (part self.now.characters.items low high))) }
+    {
+        let written = part(&self.characters, low, high);
+        if !written.iter().any(|c| is_white(*c)) {
+            return self.unescaped(low, high);
+        }
+        let plain = unescaped(self.alloc, written)?;
+        let dark = without_white(self.alloc, &plain)?;
+        Ok(CowStr::Owned(spell(self.alloc, &dark)?))
+    }
+
     /// What an embedded URI or alias between two places refers to.
     fn meant(&self, low: usize, high: usize) -> Result<CowStr<'_, Global>, AllocError>
         requires { high ≤ length self.now.characters.items }
-        ensures { IfOk result (λ meaning. chars (cow_str_bytes meaning) ≡ meant (part self.now.characters.items low high)) }
+        ensures { IfOk result (λ meaning. chars (cow_str_bytes meaning) ≡ meant self.now.parts.mail (part self.now.characters.items low high)) }
     {
         let enclosed = part(&self.characters, low, high);
         if is_alias(enclosed) {
             return self.unescaped(low, high - 1);
         }
-        if !enclosed.iter().any(|c| is_white(*c)) {
-            return self.unescaped(low, high);
+        let uri = self.dark(low, high)?;
+        if self.parts.mail {
+            if let Some(uri) = mailto(self.alloc, uri.as_str())? {
+                return Ok(CowStr::Owned(uri));
+            }
         }
-        let plain = unescaped(self.alloc, enclosed)?;
-        let dark = without_white(self.alloc, &plain)?;
-        Ok(CowStr::Owned(spell(self.alloc, &dark)?))
+        Ok(uri)
     }
 
     /// What is displayed of a phrase whose angle brackets begin at a place.
@@ -136,7 +173,7 @@ impl Written<'_> {
         requires within { IsWithin self.now.characters.items piece }
         requires phrase { phrase.now ≡ content self.now.characters.items piece }
         requires place { place + 2 < length phrase.now }
-        ensures { IfOk result (λ display_text. chars (cow_str_bytes display_text) ≡ phrase_display_text phrase.now place) }
+        ensures { IfOk result (λ display_text. chars (cow_str_bytes display_text) ≡ phrase_display_text self.now.parts.mail phrase.now place) }
     {
         if place == 0 {
             return self.meant(piece.content_from + 1, piece.content_to - 1);
@@ -187,7 +224,7 @@ impl Written<'_> {
     /// A phrase that is a reference.
     fn phrase(&self, suffix: Suffix, piece: Piece) -> Result<Meaning>
         requires { IsWithin self.now.characters.items piece }
-        ensures { IfOk result (λ reading. reading ≡ phrase_reading suffix (source self.now.characters.items piece) (content self.now.characters.items piece) self.now.line) }
+        ensures { IfOk result (λ reading. reading ≡ phrase_reading self.now.parts.mail suffix (source self.now.characters.items piece) (content self.now.characters.items piece) self.now.line) }
     {
         let source = self.part(piece.from, piece.to);
         let phrase = part(&self.characters, piece.content_from, piece.content_to);
@@ -211,15 +248,28 @@ impl Written<'_> {
 
     /// Interpreted text with a role.
     #[tactic(auto, using(crate::proofs::TextLemmas::spelled_again))]
-    fn with_role(&self, role: &str, piece: Piece) -> Result<Meaning>
-        ensures { IfOk result (λ reading. reading ≡ role_reading (chars role.now) (unescaped (content self.now.characters.items piece)) self.now.line) }
+    fn with_role(&self, name: &str, piece: Piece) -> Result<Meaning>
+        ensures { IfOk result (λ reading. let cs = self.now.characters.items in reading ≡ role_reading self.now.parts (chars name.now) (source cs piece) (content cs piece) self.now.line) }
     {
-        match role_tag(role) {
-            Some(tag) => self.text_element_of(tag, piece),
-            None => {
-                let text = format!(in self.alloc; "Unknown interpreted text role \"{role}\".")?;
-                Ok(Meaning::Wrong(Level::Error, Text::new(text)))
-            }
+        match Role::named(self.parts.roles, name) {
+            Some(Role::Element(tag)) => self.text_element_of(tag, piece),
+            Some(Role::Pep) => self.pep(piece),
+            Some(Role::Rfc) => self.rfc(piece),
+            Some(Role::Math) => self.literal(Tag::Math, Vec::new(self.alloc), piece),
+            Some(Role::Code) => self.code(piece),
+            Some(Role::Raw) => wrong_role(
+                self.alloc,
+                "No format (Writer name) is associated with this role: \"",
+                name,
+                "\".\nThe \"raw\" role cannot be used directly.\nInstead, use the \"role\" directive to create a new role with an associated format.",
+            ),
+            Some(Role::Unimplemented) => wrong_role(
+                self.alloc,
+                "Interpreted text role \"",
+                name,
+                "\" not implemented.",
+            ),
+            None => wrong_role(self.alloc, "Unknown interpreted text role \"", name, "\"."),
         }
     }
 
@@ -227,7 +277,7 @@ impl Written<'_> {
     #[inline(never)]
     fn interpreted(&self, suffix: Suffix, piece: Piece) -> Result<Meaning>
         requires { IsWithin self.now.characters.items piece }
-        ensures { IfOk result (λ reading. reading ≡ interpreted_reading (has_prefix_role piece) suffix self.now.characters.items piece self.now.line) }
+        ensures { IfOk result (λ reading. reading ≡ interpreted_reading self.now.parts (has_prefix_role piece) suffix self.now.characters.items piece self.now.line) }
     {
         // A role comes first.
         if piece.from + 1 < piece.content_from {
@@ -302,18 +352,37 @@ impl Written<'_> {
         Ok(Meaning::One(node))
     }
 
+    /// A reference to a URI that shows a text.
+    #[inline(always)]
+    pub(crate) fn link(&self, piece: Piece, uri: &str, display_text: &str) -> Result<Meaning>
+        ensures { IfOk result (λ reading. reading ≡ One (link_node (source self.now.characters.items piece) (chars uri.now) (chars display_text.now) self.now.line)) }
+    {
+        let source = self.part(piece.from, piece.to);
+        let attrs = vec![in self.alloc;
+            Entry::new(Key::Rawsource, text_value(self.alloc, source)?),
+            Entry::new(Key::Refuri, text_value(self.alloc, uri)?),
+        ]?;
+        let node = element(self.alloc, Tag::Reference, attrs, display_text, self.line)?;
+        Ok(Meaning::One(node))
+    }
+
     /// A standalone URI.
     #[inline(never)]
     fn uri(&self, piece: Piece) -> Result<Meaning>
         ensures { IfOk result (λ reading. reading ≡ One (uri_node (source self.now.characters.items piece) self.now.line)) }
     {
         let source = self.part(piece.from, piece.to);
-        let attrs = vec![in self.alloc;
-            Entry::new(Key::Rawsource, text_value(self.alloc, source)?),
-            Entry::new(Key::Refuri, text_value(self.alloc, source)?),
-        ]?;
-        let node = element(self.alloc, Tag::Reference, attrs, source, self.line)?;
-        Ok(Meaning::One(node))
+        self.link(piece, source, source)
+    }
+
+    /// An e-mail address.
+    #[inline(never)]
+    fn address(&self, piece: Piece) -> Result<Meaning>
+        ensures { IfOk result (λ reading. let source = source self.now.characters.items piece in reading ≡ One (address_node source (unescaped source) self.now.line)) }
+    {
+        let address = self.unescaped(piece.from, piece.to)?;
+        let uri = uri_of_address(self.alloc, address.as_str())?;
+        self.link(piece, uri.as_str(), address.as_str())
     }
 
     /// What a piece of the text means.
@@ -321,7 +390,7 @@ impl Written<'_> {
     #[inline(always)]
     pub(crate) fn reading(&self, piece: Piece) -> Result<Meaning>
         requires { IsWithin self.now.characters.items piece }
-        ensures { IfOk result (λ read. read ≡ reading self.now.characters.items self.now.line piece) }
+        ensures { IfOk result (λ read. read ≡ reading self.now.parts self.now.characters.items self.now.line piece) }
     {
         match piece.kind {
             Kind::Plain => match self.plain(piece)? {
@@ -330,7 +399,9 @@ impl Written<'_> {
             },
             Kind::Marked(Markup::Strong, _) => self.text_element_of(Tag::Strong, piece),
             Kind::Marked(Markup::Emphasis, _) => self.text_element_of(Tag::Emphasis, piece),
-            Kind::Marked(Markup::Literal, _) => self.literal(piece),
+            Kind::Marked(Markup::Literal, _) => {
+                self.literal(Tag::Literal, Vec::new(self.alloc), piece)
+            }
             Kind::Marked(Markup::Target, _) => self.inline_target(piece),
             Kind::Marked(Markup::Substitution, suffix) => self.substituted(suffix, piece),
             Kind::Marked(Markup::Interpreted, suffix) => self.interpreted(suffix, piece),
@@ -348,6 +419,7 @@ impl Written<'_> {
             Kind::Label => Ok(Meaning::One(self.label(piece)?)),
             Kind::Reference(suffix) => self.named(suffix, piece),
             Kind::Uri => self.uri(piece),
+            Kind::Address => self.address(piece),
         }
     }
 }

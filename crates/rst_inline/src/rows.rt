@@ -2,28 +2,74 @@
 //! its nodes with all their attributes, and then its messages.
 #![tactic(auto, unfolding(crate::proofs::Computing::rst_inline))]
 
-ghost use Rattle.std.specs.Prelude.{◌≡◌, Some, None, codes, map, [], ◌∷◌};
-ghost use Rattle.rst_inline.specs.Reads.{Shows};
+ghost use Rattle.std.specs.Prelude.{◌≡◌, true, false, Some, None, codes, map, [], ◌∷◌};
+ghost use Rattle.rst_inline.specs.Reads.{Shows, ShowsWider};
 ghost use Rattle.rst_inline.specs.Results.{nodes_from, notes_of};
-ghost use Rattle.rst_inline.specs.Roles.{role_tag};
+ghost use Rattle.rst_inline.specs.Roles.{is_wider_role, role_named};
+ghost use Rattle.rst_inline.specs.declared.roles.Role.TheVariants as Role;
 ghost use Rattle.rst_inline_scan.specs.Reading.{pieces_of};
+ghost use Rattle.rst_settings.specs.Parts.{no_parts};
 ghost use Rattle.rst_tree.specs.Forest.{bare, words};
 ghost use Rattle.rst_tree.specs.declared.node.Node.TheVariants.{Element};
 ghost use Rattle.rst_tree.specs.declared.tag.Tag.TheVariants.{Emphasis, Strong, Literal, Subscript, Superscript, TitleReference};
 
 /// What roles make (Markup Specification, 'Interpreted Text').
 pub fn roles()
-    ensures text { map role_tag (codes "emphasis" ∷ codes "strong" ∷ codes "literal" ∷ []) ≡ Some Emphasis ∷ Some Strong ∷ Some Literal ∷ [] }
-    ensures low_and_high { map role_tag (codes "subscript" ∷ codes "sub" ∷ codes "superscript" ∷ codes "sup" ∷ [])
-        ≡ Some Subscript ∷ Some Subscript ∷ Some Superscript ∷ Some Superscript ∷ [] }
-    ensures titles { map role_tag (codes "title-reference" ∷ codes "title" ∷ codes "t" ∷ [])
-        ≡ Some TitleReference ∷ Some TitleReference ∷ Some TitleReference ∷ [] }
-    ensures exactly { map role_tag (codes "Sub" ∷ codes "title_reference" ∷ []) ≡ None ∷ None ∷ [] }
-    ensures others { map role_tag (codes "code" ∷ codes "math" ∷ codes "raw" ∷ codes "pep" ∷ codes "rfc" ∷ [])
+    ensures text { map (role_named false) (codes "emphasis" ∷ codes "strong" ∷ codes "literal" ∷ [])
+        ≡ Some (Role.Element Emphasis) ∷ Some (Role.Element Strong) ∷ Some (Role.Element Literal) ∷ [] }
+    ensures low_and_high { map (role_named false) (codes "subscript" ∷ codes "sub" ∷ codes "superscript" ∷ codes "sup" ∷ [])
+        ≡ Some (Role.Element Subscript) ∷ Some (Role.Element Subscript) ∷ Some (Role.Element Superscript) ∷ Some (Role.Element Superscript) ∷ [] }
+    ensures titles { map (role_named false) (codes "title-reference" ∷ codes "title" ∷ codes "t" ∷ [])
+        ≡ Some (Role.Element TitleReference) ∷ Some (Role.Element TitleReference) ∷ Some (Role.Element TitleReference) ∷ [] }
+    ensures exactly { map (role_named false) (codes "Sub" ∷ codes "title_reference" ∷ []) ≡ None ∷ None ∷ [] }
+    ensures others { map (role_named false) (codes "code" ∷ codes "math" ∷ codes "raw" ∷ codes "pep" ∷ codes "rfc" ∷ [])
         ≡ None ∷ None ∷ None ∷ None ∷ None ∷ [] }
     ensures role_before { Shows ":sub:`a`" ("<subscript>" ∷ "    a" ∷ []) }
     ensures role_after { Shows "`a`:sub:" ("<subscript>" ∷ "    a" ∷ []) }
     ensures by_default { Shows "`a`" ("<title_reference>" ∷ "    a" ∷ []) }
+{}
+
+/// Roles of the wider profile (Roles, 'Standard Roles').
+pub fn wider_roles()
+    ensures any_case { ShowsWider ":SUB:`a` `b`:Sup:" ("<subscript>" ∷ "    a" ∷ " " ∷ "<superscript>" ∷ "    b" ∷ []) }
+    ensures letters { ShowsWider ":ac:`a` :acronym:`b` :ab:`c` :abbreviation:`d`"
+        ("<acronym>" ∷ "    a" ∷ " " ∷ "<acronym>" ∷ "    b" ∷ " " ∷ "<abbreviation>" ∷ "    c" ∷ " " ∷ "<abbreviation>" ∷ "    d" ∷ []) }
+    ensures as_written { ShowsWider ":math:`\\a\\ b` :code:`c\\d`" ("<math>" ∷ "    \\a\\ b" ∷ " " ∷ "<literal classes=\"code\">" ∷ "    c\\d" ∷ []) }
+    ensures raw { ShowsWider ":Raw:`x`"
+        ("<problematic message=\"0\">" ∷ "    :Raw:`x`" ∷ "ERROR: No format (Writer name) is associated with this role: \"Raw\"."
+        ∷ "The \"raw\" role cannot be used directly."
+        ∷ "Instead, use the \"role\" directive to create a new role with an associated format." ∷ []) }
+    ensures not_made { ShowsWider ":index:`z` :Uri:`w`"
+        ("<problematic message=\"0\">" ∷ "    :index:`z`" ∷ " " ∷ "<problematic message=\"1\">" ∷ "    :Uri:`w`"
+        ∷ "ERROR: Interpreted text role \"index\" not implemented." ∷ "ERROR: Interpreted text role \"Uri\" not implemented." ∷ []) }
+    ensures unknown { ShowsWider ":m:`x`" ("<problematic message=\"0\">" ∷ "    :m:`x`" ∷ "ERROR: Unknown interpreted text role \"m\"." ∷ []) }
+    ensures not_asked_for { Shows ":pep:`8`" ("<problematic message=\"0\">" ∷ "    :pep:`8`" ∷ "ERROR: Unknown interpreted text role \"pep\"." ∷ []) }
+    ensures alone { map is_wider_role (codes "pep" ∷ codes "Sub" ∷ codes "MATH" ∷ codes "target" ∷ []) ≡ true ∷ true ∷ true ∷ true ∷ [] }
+    ensures both { map is_wider_role (codes "sub" ∷ codes "t" ∷ codes "m" ∷ codes "" ∷ []) ≡ false ∷ false ∷ false ∷ false ∷ [] }
+{}
+
+/// References by the number of a document (Roles, 'Standard Roles').
+pub fn numbers()
+    ensures pep { ShowsWider ":pep:`8` :PEP:`0257`"
+        ("<reference rawsource=\":pep:`8`\" refuri=\"https://peps.python.org/pep-0008\">" ∷ "    PEP 8" ∷ " "
+        ∷ "<reference rawsource=\":PEP:`0257`\" refuri=\"https://peps.python.org/pep-0257\">" ∷ "    PEP 0257" ∷ []) }
+    ensures highest { ShowsWider "`0`:pep-reference: :pep:`\\ 009999`"
+        ("<reference rawsource=\"`0`:pep-reference:\" refuri=\"https://peps.python.org/pep-0000\">" ∷ "    PEP 0" ∷ " "
+        ∷ "<reference rawsource=\":pep:`\\ 009999`\" refuri=\"https://peps.python.org/pep-9999\">" ∷ "    PEP 009999" ∷ []) }
+    ensures wrong_pep { ShowsWider ":pep:`x\\*y` :pep:`10000`"
+        ("<problematic message=\"0\">" ∷ "    :pep:`x\\*y`" ∷ " " ∷ "<problematic message=\"1\">" ∷ "    :pep:`10000`"
+        ∷ "ERROR: PEP number must be a number from 0 to 9999; \"x*y\" is invalid."
+        ∷ "ERROR: PEP number must be a number from 0 to 9999; \"10000\" is invalid." ∷ []) }
+    ensures rfc { ShowsWider ":rfc:`2822` `2822#section-3`:rfc-reference:"
+        ("<reference rawsource=\":rfc:`2822`\" refuri=\"https://tools.ietf.org/html/rfc2822.html\">" ∷ "    RFC 2822" ∷ " "
+        ∷ "<reference rawsource=\"`2822#section-3`:rfc-reference:\" refuri=\"https://tools.ietf.org/html/rfc2822.html#section-3\">" ∷ "    RFC 2822" ∷ []) }
+    ensures fragments { ShowsWider ":rfc:`02822#a b` :rfc:`2822#`"
+        ("<reference rawsource=\":rfc:`02822#a b`\" refuri=\"https://tools.ietf.org/html/rfc2822.html#a b\">" ∷ "    RFC 2822" ∷ " "
+        ∷ "<reference rawsource=\":rfc:`2822#`\" refuri=\"https://tools.ietf.org/html/rfc2822.html#\">" ∷ "    RFC 2822" ∷ []) }
+    ensures wrong_rfc { ShowsWider ":rfc:`00#a` :rfc:`x`"
+        ("<problematic message=\"0\">" ∷ "    :rfc:`00#a`" ∷ " " ∷ "<problematic message=\"1\">" ∷ "    :rfc:`x`"
+        ∷ "ERROR: RFC number must be a number greater than or equal to 1; \"00#a\" is invalid."
+        ∷ "ERROR: RFC number must be a number greater than or equal to 1; \"x\" is invalid." ∷ []) }
 {}
 
 /// Text between start-strings and end-strings (Markup Specification, 'Inline Markup').
@@ -37,7 +83,7 @@ pub fn markup()
     ensures backslash_alone { Shows "\\" [] }
     ensures two_lines { Shows "*a\nb* c\nd" ("<emphasis>" ∷ "    a" ∷ "    b" ∷ " c" ∷ "d" ∷ []) }
     ensures target { Shows "_`A  b\\_`" ("<target inline=\"1\" own_name=\"a b_\">" ∷ "    A  b_" ∷ []) }
-    ensures line { nodes_from (codes "*a*") 7 0 (pieces_of (codes "*a*")) ≡ Element Emphasis [] (words (codes "a") bare) 7 ∷ [] }
+    ensures line { nodes_from no_parts (codes "*a*") 7 0 (pieces_of false (codes "*a*")) ≡ Element Emphasis [] (words (codes "a") bare) 7 ∷ [] }
 {}
 
 /// References by a name and by a phrase (Markup Specification, 'Hyperlink References').
@@ -81,6 +127,21 @@ pub fn embedded()
         ∷ []) }
     ensures angle_inside { Shows "`a <>>`_"
         ("<reference name=\"a\" rawsource=\"`a <>>`_\" refuri=\">\">" ∷ "    a" ∷ "<target inline=\"1\" own_name=\"a\" refuri=\">\">" ∷ []) }
+{}
+
+/// E-mail addresses, alone and in phrases (Markup Specification, 'Standalone Hyperlinks').
+pub fn addresses()
+    ensures alone { ShowsWider "to me@example.org." ("to " ∷ "<reference rawsource=\"me@example.org\" refuri=\"mailto:me@example.org\">" ∷ "    me@example.org" ∷ "." ∷ []) }
+    ensures escaped { ShowsWider "m\\e@a.org" ("<reference rawsource=\"m\\e@a.org\" refuri=\"mailto:me@a.org\">" ∷ "    me@a.org" ∷ []) }
+    ensures not_asked_for { Shows "me@a.org" ("me@a.org" ∷ []) }
+    ensures embedded { ShowsWider "`Me <me@a.org>`_"
+        ("<reference name=\"Me\" rawsource=\"`Me <me@a.org>`_\" refuri=\"mailto:me@a.org\">" ∷ "    Me"
+        ∷ "<target inline=\"1\" own_name=\"me\" refuri=\"mailto:me@a.org\">" ∷ []) }
+    ensures embedded_alone { ShowsWider "`<me@a.org>`__" ("<reference name=\"mailto:me@a.org\" rawsource=\"`<me@a.org>`__\" refuri=\"mailto:me@a.org\">" ∷ "    mailto:me@a.org" ∷ []) }
+    ensures white { ShowsWider "`A <me@a.org x>`__" ("<reference name=\"A\" rawsource=\"`A <me@a.org x>`__\" refuri=\"mailto:me@a.orgx\">" ∷ "    A" ∷ []) }
+    ensures no_address { ShowsWider "`A <é@a.org>`__" ("<reference name=\"A\" rawsource=\"`A <é@a.org>`__\" refuri=\"é@a.org\">" ∷ "    A" ∷ []) }
+    ensures alias { ShowsWider "`A <me@a.org_>`_" ("<reference name=\"A\" rawsource=\"`A <me@a.org_>`_\" refname=\"me@a.org\">" ∷ "    A" ∷ []) }
+    ensures phrase { ShowsWider "`me@a.org`_" ("<reference name=\"me@a.org\" rawsource=\"`me@a.org`_\" refname=\"me@a.org\">" ∷ "    me@a.org" ∷ []) }
 {}
 
 /// Phrases with angle brackets in which nothing is embedded (Markup Specification, 'Embedded URIs and Aliases').
@@ -140,5 +201,5 @@ pub fn messages()
         ("<problematic message=\"0\">" ∷ "    :sub:`a`_" ∷ "WARNING: Mismatch: both interpreted text role and reference suffix." ∷ []) }
     ensures anonymous_mismatch { Shows ":sub:`a`__"
         ("<problematic message=\"0\">" ∷ "    :sub:`a`__" ∷ "WARNING: Mismatch: both interpreted text role and reference suffix." ∷ []) }
-    ensures line { map (λ note. note.line) (notes_of (codes "a\n*b") 7 (pieces_of (codes "a\n*b"))) ≡ 7 ∷ [] }
+    ensures line { map (λ note. note.line) (notes_of no_parts (codes "a\n*b") 7 (pieces_of false (codes "a\n*b"))) ≡ 7 ∷ [] }
 {}

@@ -4,10 +4,11 @@ ghost use Rattle.std.specs.Str.{all_scalars, chars, IsAscii};
 ghost use Rattle.std.specs.Cow.{cow_str_bytes};
 ghost use Rattle.rst_text.specs.Escapes.{has_backslash, unescaped};
 ghost use Rattle.rst_inline_scan.specs.Pieces.{IsPieces};
-ghost use Rattle.rst_inline.specs.Parts.{part, text_bytes, starts_of};
+ghost use Rattle.rst_inline.specs.Parts.{content, part, text_bytes, starts_of};
 
 use super::texts::{part, spell};
 use rst_inline_scan::{Piece, pieces_of, pieces_of_ascii};
+use rst_settings::Parts;
 use rst_text::{ascii_characters, unescaped};
 use std::alloc::{AllocError, Global};
 use std::borrow::CowStr;
@@ -17,6 +18,8 @@ use std::borrow::CowStr;
 pub(crate) struct Written<'a> {
     pub(crate) alloc: Global,
     pub(crate) line: usize,
+    /// The parts of the wider profile that hold in the text.
+    pub(crate) parts: Parts,
     text: &'a str,
     pub(crate) characters: Vec<char>,
     /// Where they begin ([`with_starts`]).
@@ -53,15 +56,22 @@ fn with_starts(alloc: Global, text: &str) -> Result<(Vec<char>, Vec<usize>), All
 
 impl<'a> Written<'a> {
     /// A text whose first line has the number `line`.
-    pub(crate) fn of(alloc: Global, text: &'a str, line: usize) -> Result<Written<'a>, AllocError>
+    pub(crate) fn of(
+        alloc: Global,
+        parts: Parts,
+        text: &'a str,
+        line: usize,
+    ) -> Result<Written<'a>, AllocError>
         ensures text { IfOk result (λ written. written.characters.items ≡ chars text.now) }
         ensures line { IfOk result (λ written. written.line ≡ line) }
+        ensures parts { IfOk result (λ written. written.parts ≡ parts) }
     {
         let (characters, starts) = with_starts(alloc, text)?;
         let escapes = text.as_bytes().contains(&b'\\');
         Ok(Written {
             alloc,
             line,
+            parts,
             text,
             characters,
             starts,
@@ -71,12 +81,17 @@ impl<'a> Written<'a> {
 
     /// The pieces of the text.
     pub(crate) fn pieces(&self) -> Result<Vec<Piece>, AllocError>
-        ensures { IfOk result (λ pieces. IsPieces self.now.characters.items 0 pieces.items) }
+        ensures { IfOk result (λ pieces. IsPieces self.now.parts.mail self.now.characters.items 0 pieces.items) }
     {
         if self.starts.is_empty() {
-            pieces_of_ascii(self.alloc, &self.characters, self.text.as_bytes())
+            pieces_of_ascii(
+                self.alloc,
+                self.parts.mail,
+                &self.characters,
+                self.text.as_bytes(),
+            )
         } else {
-            pieces_of(self.alloc, &self.characters)
+            pieces_of(self.alloc, self.parts.mail, &self.characters)
         }
     }
 
@@ -114,5 +129,13 @@ impl<'a> Written<'a> {
         }
         let plain = unescaped(self.alloc, part(&self.characters, low, high))?;
         Ok(CowStr::Owned(spell(self.alloc, &plain)?))
+    }
+
+    /// What the markup of a piece encloses, without its escapes.
+    pub(crate) fn unescaped_content(&self, piece: Piece) -> Result<Vec<char>, AllocError>
+        ensures { IfOk result (λ text. text.items ≡ unescaped (content self.now.characters.items piece)) }
+    {
+        let written = part(&self.characters, piece.content_from, piece.content_to);
+        unescaped(self.alloc, written)
     }
 }

@@ -4,6 +4,7 @@ pub mod NameLemmas
 pub mod MarkedLemmas
 pub mod MissingLemmas
 pub mod UriLemmas
+pub mod MailLemmas
 pub mod PieceLemmas
 pub mod WordLemmas
 pub mod CalmLemmas

@@ -4,7 +4,7 @@ use Rattle.std.proofs.lemmas.Bool.{cases_eq}
 use Rattle.std.proofs.lemmas.Grind.{get_or-set_at}
 use Rattle.std.proofs.lemmas.List.{get_or-set_other}
 use Rattle.rst_text.specs.Characters.{Text}
-use Rattle.rst_inline_scan.specs.Missing.{code, IsUnended, IsMissing}
+use Rattle.rst_inline_scan.specs.Missing.{code, IsUnended, IsMissing, HasNoAddress}
 use Rattle.rst_inline_scan.specs.declared.piece.Markup.{Markup}
 use Rattle.rst_inline_scan.specs.declared.piece.Markup.TheVariants.{Strong, Emphasis, Literal, Target, Substitution, Interpreted}
 use Rattle.rst_inline_scan.specs.declared.missing.Missing.{Missing}
@@ -46,3 +46,6 @@ IsMissing-later t missing place next h known = record {
   names = λ i above below. known.names i (omega arith) below;
   uris = λ i above below. known.uris i (omega arith) below;
 }
+
+pub HasNoAddress-later : (t : Text) (place next searched : ℕ) → place ≤ next → HasNoAddress t place searched → HasNoAddress t next searched
+HasNoAddress-later t place next searched h known = λ i above below. known i (omega arith) below

@@ -1,5 +1,5 @@
 -- The pieces of a text.
-use Rattle.std.proofs.Common.{◌≡◌, ℕ, ◌+◌, ◌<◌, ◌≤◌, List, [], ◌∷◌, ◌&&◌, cond, Option, Some, None, IfSome, length, option_and_then, refl, sym, subst, arith}
+use Rattle.std.proofs.Common.{◌≡◌, ℕ, ◌+◌, ◌<◌, ◌≤◌, Bool, true, false, List, [], ◌∷◌, ◌&&◌, cond, Option, Some, None, IfSome, length, option_and_then, refl, sym, subst, arith}
 use Rattle.std.proofs.lemmas.Bool.{and_parts}
 use Rattle.std.proofs.lemmas.List.Elements.{All-nil, All-cons}
 use Rattle.std.specs.Prelude.{All}
@@ -7,7 +7,7 @@ use Rattle.rst_text.specs.Characters.{Text, has, is_alnum_at}
 use Rattle.rst_inline_scan.specs.Characters.{is_free_after}
 use Rattle.rst_text.specs.SimpleNames.{name_stop}
 use Rattle.rst_inline_scan.specs.Footnotes.{label_stop, closes_label, label_piece, label}
-use Rattle.rst_inline_scan.specs.Pieces.{markup_at, is_free, piece_at, HasNoStart, plain_from, IsPlain, IsWithin, IsPieces, nothing, last, other, plain}
+use Rattle.rst_inline_scan.specs.Pieces.{markup_at, is_free, is_free_address, markup_from, address_from, piece_at, HasNoStart, plain_from, IsPlain, IsWithin, IsPieces, nothing, last, other, plain}
 use Rattle.rst_inline_scan.specs.Marked.{markup_of, marked}
 use Rattle.rst_inline_scan.specs.declared.piece.Markup.{Markup}
 use Rattle.rst_inline_scan.specs.declared.piece.Piece.{Piece}
@@ -15,7 +15,9 @@ use Rattle.rst_inline_scan.proofs.FitLemmas.{Fits, Fit, Fit-none, Fit-some, Fit-
 use Rattle.rst_text.proofs.Choices.{either, chosen}
 use Rattle.rst_inline_scan.proofs.NameLemmas.{name_stop-fits, reference-fits}
 use Rattle.rst_inline_scan.proofs.MarkedLemmas.{marked-fits}
+use Rattle.rst_inline_scan.specs.Mail.{address}
 use Rattle.rst_inline_scan.proofs.UriLemmas.{uri-fits}
+use Rattle.rst_inline_scan.proofs.MailLemmas.{address-fits}
 
 -- ---- a reference to a footnote
 
@@ -55,16 +57,23 @@ markup_at-fits : (t : Text) (i : ℕ) → i ≤ length t → Fit t i (markup_at 
 unfolding markup_at
 markup_at-fits t i within = Fit-or t i _ _ (marked_any-fits t i (markup_of t i)) (Fit-or t i _ _ (label-fits t i) (Fit-or t i _ _ (reference-fits t i) (uri-fits t i within)))
 
-pub piece_at-fits : (t : Text) (from i : ℕ) (p : Piece) → i ≤ length t → piece_at t from i ≡ Some p → Fits t i p
-unfolding piece_at
-piece_at-fits t from i p within h = markup_at-fits t i within p (chosen (is_free t from i) (markup_at t i) p h).1
+markup_from-fits : (t : Text) (from i : ℕ) → i ≤ length t → Fit t i (markup_from t from i)
+markup_from-fits t from i within p h = markup_at-fits t i within p (chosen (is_free t from i) (markup_at t i) p h).1
 
-pub is-plain : (t : Text) (from at : ℕ) → from < at → at ≤ length t → HasNoStart t from from at → IsPlain t from (plain_from from at)
-is-plain t from at some within none = record { is_plain = refl; some = some; within = within; none = none }
+address_from-fits : (t : Text) (from i : ℕ) → i ≤ length t → Fit t i (address_from t from i)
+address_from-fits t from i within p h = address-fits t i within p (chosen (is_free_address t from i) (address t i) p h).1
+
+pub piece_at-fits : (mail : Bool) (t : Text) (from i : ℕ) (p : Piece) → i ≤ length t → piece_at mail t from i ≡ Some p → Fits t i p
+unfolding piece_at
+piece_at-fits false t from i p within h = markup_from-fits t from i within p h
+piece_at-fits true t from i p within h = Fit-or t i (markup_from t from i) (address_from t from i) (markup_from-fits t from i within) (address_from-fits t from i within) p h
+
+pub is-plain : (mail : Bool) (t : Text) (from at : ℕ) → from < at → at ≤ length t → HasNoStart mail t from from at → IsPlain mail t from (plain_from from at)
+is-plain mail t from at some within none = record { is_plain = refl; some = some; within = within; none = none }
 
 -- a start is within the text, as there is nothing past its end: a piece there would reach further
-pub inside_at : (t : Text) (from i : ℕ) (p : Piece) → i ≤ length t → piece_at t from i ≡ Some p → i < length t
-inside_at t from i p within h = let fits = piece_at-fits t from i p within h in omega (arith, fits.some, fits.within)
+pub inside_at : (mail : Bool) (t : Text) (from i : ℕ) (p : Piece) → i ≤ length t → piece_at mail t from i ≡ Some p → i < length t
+inside_at mail t from i p within h = let fits = piece_at-fits mail t from i p within h in omega (arith, fits.some, fits.within)
 
 -- ---- each piece lies within the text
 
@@ -75,17 +84,17 @@ fits-within t i p fits =
     let above = fits.above in
     record { some = omega arith; begins = omega arith; ends = fits.order; limit = fits.limit; within = fits.within }
 
-plain-within : (t : Text) (from : ℕ) (p : Piece) → IsPlain t from p → IsWithin t p
-plain-within t from p a =
+plain-within : (mail : Bool) (t : Text) (from : ℕ) (p : Piece) → IsPlain mail t from p → IsWithin t p
+plain-within mail t from p a =
     let within = a.within in
     let some = a.some in
     subst (IsWithin t) (sym a.is_plain) (record { some = some; begins = omega arith; ends = omega arith; limit = omega arith; within = within })
 
-pub IsPieces-within : (t : Text) (from : ℕ) (ps : List Piece) → from ≤ length t → IsPieces t from ps → All (IsWithin t) ps
-IsPieces-within t from _ h (nothing e) = All-nil (IsWithin t)
-IsPieces-within t from _ h (last p a e) = All-cons (IsWithin t) p [] (plain-within t from p a) (All-nil (IsWithin t))
-IsPieces-within t from _ h (other p ps a rest) =
-    let fits = piece_at-fits t from from p h a in All-cons (IsWithin t) p ps (fits-within t from p fits) (IsPieces-within t p.to ps fits.within rest)
-IsPieces-within t from _ h (plain p q ps a s rest) =
-    let fits = piece_at-fits t from p.to q a.within s in
-    All-cons (IsWithin t) p (q ∷ ps) (plain-within t from p a) (All-cons (IsWithin t) q ps (fits-within t p.to q fits) (IsPieces-within t q.to ps fits.within rest))
+pub IsPieces-within : (mail : Bool) (t : Text) (from : ℕ) (ps : List Piece) → from ≤ length t → IsPieces mail t from ps → All (IsWithin t) ps
+IsPieces-within mail t from _ h (nothing e) = All-nil (IsWithin t)
+IsPieces-within mail t from _ h (last p a e) = All-cons (IsWithin t) p [] (plain-within mail t from p a) (All-nil (IsWithin t))
+IsPieces-within mail t from _ h (other p ps a rest) =
+    let fits = piece_at-fits mail t from from p h a in All-cons (IsWithin t) p ps (fits-within t from p fits) (IsPieces-within mail t p.to ps fits.within rest)
+IsPieces-within mail t from _ h (plain p q ps a s rest) =
+    let fits = piece_at-fits mail t from p.to q a.within s in
+    All-cons (IsWithin t) p (q ∷ ps) (plain-within mail t from p a) (All-cons (IsWithin t) q ps (fits-within t p.to q fits) (IsPieces-within mail t q.to ps fits.within rest))

@@ -1,10 +1,10 @@
 -- In a quiet text nothing begins.
-use Rattle.std.proofs.Common.{◌≡◌, ⊎_elim, ℕ, ◌+◌, ◌<◌, ◌≤◌, true, false, ◌||◌, ◌==◌, List, [], ◌∷◌, Option, Some, None, length, option_and_then, get_or, true≢false, refl, sym, ap, ◌∙◌, subst, arith}
+use Rattle.std.proofs.Common.{◌≡◌, ⊎_elim, ℕ, ◌+◌, ◌<◌, ◌≤◌, Bool, true, false, not, ◌&&◌, ◌||◌, ◌==◌, List, [], ◌∷◌, Option, Some, None, length, option_and_then, get_or, true≢false, refl, sym, ap, ap₂, ◌∙◌, subst, arith}
 use Rattle.std.specs.Prelude.{nat_lt}
 use Rattle.std.specs.Str.{chars, IsUtf8}
 use Rattle.std.proofs.Math.Utf8.{encode, encodes}
 use Rattle.std.proofs.lemmas.Str.{encode_ascii, encodes-chars}
-use Rattle.std.proofs.lemmas.Bool.{ltb-true, eqb-true, eq-eqb, ne_eqb, and_parts, and_left, cases_lt, cond_both, false_from_ne_true}
+use Rattle.std.proofs.lemmas.Bool.{ltb-true, eqb-true, eq-eqb, ne_eqb, and_parts, and_left, cases_lt, cond_both, false_from_ne_true, not-true}
 use Rattle.rst_inline_scan.specs.Marked.{markup_of}
 use Rattle.std.proofs.lemmas.Bool.Decides.{nat_tests}
 use Rattle.std.proofs.lemmas.List.Elements.{All-from_get_or}
@@ -15,13 +15,15 @@ use Rattle.rst_text.specs.Escapes.{has_backslash}
 use Rattle.rst_inline_scan.specs.Footnotes.{label_stop, closes_label, label_piece, label}
 use Rattle.rst_inline_scan.specs.Pieces.{piece_at, plain_from, IsPieces, nothing, last}
 use Rattle.rst_text.specs.Runs.{IsRun}
+use Rattle.rst_inline_scan.specs.Mail.{holds_at_sign}
+use Rattle.rst_inline_scan.proofs.MailLemmas.{same-pieces, absent-chars}
 use Rattle.rst_inline_scan.specs.Quiet.{is_quiet, quiet}
 use Rattle.rst_inline_scan.specs.declared.piece.Piece.{Piece}
 use Rattle.rst_inline_scan.proofs.WordLemmas.{IsBarred, unmarked, differs, no-piece-barred}
 use Rattle.rst_inline_scan.proofs.NameLemmas.{no-underscore}
 
 abbrev IsQuiet : Text → Type 0
-IsQuiet t = quiet t ≡ true
+IsQuiet t = quiet false t ≡ true
 
 -- a character that isn't quiet occurs nowhere
 absent : (t : Text) (c : ℕ) → IsQuiet t → is_quiet c ≡ false → (i : ℕ) → has t i c ≡ false
@@ -57,7 +59,7 @@ no-label t i h =
 
 -- ---- one plain piece
 
-no-piece : (t : Text) (from i : ℕ) → IsQuiet t → i < length t → piece_at t from i ≡ None
+no-piece : (t : Text) (from i : ℕ) → IsQuiet t → i < length t → piece_at false t from i ≡ None
 no-piece t from i h less = no-piece-barred t from i (length t) (bars t i h less) (none-marked t i h) (no-label t i h)
 
 -- the whole text as one plain piece, or none where it is empty
@@ -65,42 +67,60 @@ abbrev pub whole : Text → List Piece
 whole [] = []
 whole (c ∷ cs) = plain_from 0 (length (c ∷ cs)) ∷ []
 
-pub quiet-pieces : (t : Text) → quiet t ≡ true → IsPieces t 0 (whole t)
-quiet-pieces [] h = nothing refl
-quiet-pieces (c ∷ cs) h =
+marked-pieces : (t : Text) → IsQuiet t → IsPieces false t 0 (whole t)
+marked-pieces [] h = nothing refl
+marked-pieces (c ∷ cs) h =
     last (plain_from 0 (length (c ∷ cs))) (record { is_plain = refl; some = omega arith; within = omega arith; none = λ i low less. no-piece (c ∷ cs) 0 i h less }) refl
 
-pub quiet-one : (t : Text) → quiet t ≡ true → 0 < length t → IsPieces t 0 (plain_from 0 (length t) ∷ [])
-quiet-one [] h some = absurd (omega arith)
-quiet-one (c ∷ cs) h some = quiet-pieces (c ∷ cs) h
+-- no @ is in it, either, where addresses are asked for
+quiet-parts : (t : Text) → quiet true t ≡ true → (quiet false t ≡ true) × (holds_at_sign t ≡ false)
+quiet-parts t h = let parts = and_parts (quiet false t) (not (holds_at_sign t)) h in (parts.0, not-true (holds_at_sign t) parts.1)
+
+pub quiet-pieces : (mail : Bool) (t : Text) → quiet mail t ≡ true → IsPieces mail t 0 (whole t)
+quiet-pieces false t h = marked-pieces t h
+quiet-pieces true t h = let parts = quiet-parts t h in same-pieces t 0 (whole t) parts.1 (marked-pieces t parts.0)
+
+pub quiet-one : (mail : Bool) (t : Text) → quiet mail t ≡ true → 0 < length t → IsPieces mail t 0 (plain_from 0 (length t) ∷ [])
+quiet-one mail [] h some = absurd (omega arith)
+quiet-one mail (c ∷ cs) h some = quiet-pieces mail (c ∷ cs) h
 
 -- ---- its characters
 
 past-ascii : (c : ℕ) → 128 ≤ c → is_quiet c ≡ true
 past-ascii c high = grind (arith, nat_tests)
 
-spelled : (cs : List ℕ) → quiet (encodes cs) ≡ true → quiet cs ≡ true
+spelled : (cs : List ℕ) → IsQuiet (encodes cs) → IsQuiet cs
 spelled [] h = refl
 spelled (c ∷ cs) h =
-    let parts = and_parts (quiet (encode c)) (quiet (encodes cs)) (sym (list_all-append is_quiet (encode c) (encodes cs)) ∙ h) in
+    let parts = and_parts (quiet false (encode c)) (quiet false (encodes cs)) (sym (list_all-append is_quiet (encode c) (encodes cs)) ∙ h) in
     let first : is_quiet c ≡ true = ⊎_elim
-    (λ low. (and_parts (is_quiet c) true (subst (λ bs. quiet bs ≡ true) (encode_ascii c low) parts.0)).0)
+    (λ low. (and_parts (is_quiet c) true (subst IsQuiet (encode_ascii c low) parts.0)).0)
     (λ high. past-ascii c high)
     (cases_lt c 128) in
     rw first (spelled cs parts.1)
 
 -- a text is quiet whose bytes are
-pub quiet-chars : (bs : List ℕ) → IsUtf8 bs → quiet bs ≡ true → quiet (chars bs) ≡ true
-quiet-chars bs utf8 h = spelled (chars bs) (subst (λ t. quiet t ≡ true) (sym (encodes-chars bs utf8)) h)
+chars-quiet : (bs : List ℕ) → IsUtf8 bs → quiet false bs ≡ true → quiet false (chars bs) ≡ true
+chars-quiet bs utf8 h = spelled (chars bs) (subst IsQuiet (sym (encodes-chars bs utf8)) h)
 
-pub quiet-plain : (t : Text) → quiet t ≡ true → has_backslash t ≡ false
-quiet-plain [] h = refl
-quiet-plain (c ∷ cs) h =
-    let parts = and_parts (is_quiet c) (quiet cs) h in
-    ap (λ b. b || has_backslash cs) (differs is_quiet c 92 parts.0 refl) ∙ quiet-plain cs parts.1
+pub quiet-chars : (mail : Bool) (bs : List ℕ) → IsUtf8 bs → quiet mail bs ≡ true → quiet mail (chars bs) ≡ true
+quiet-chars false bs utf8 h = chars-quiet bs utf8 h
+quiet-chars true bs utf8 h =
+    let parts = quiet-parts bs h in
+    ap₂ (λ a b. a && not b) (chars-quiet bs utf8 parts.0) (absent-chars bs utf8 parts.1)
+
+bare : (t : Text) → IsQuiet t → has_backslash t ≡ false
+bare [] h = refl
+bare (c ∷ cs) h =
+    let parts = and_parts (is_quiet c) (quiet false cs) h in
+    ap (λ b. b || has_backslash cs) (differs is_quiet c 92 parts.0 refl) ∙ bare cs parts.1
+
+pub quiet-plain : (mail : Bool) (t : Text) → quiet mail t ≡ true → has_backslash t ≡ false
+quiet-plain false t h = bare t h
+quiet-plain true t h = bare t (quiet-parts t h).0
 
 -- a text is quiet where its run of quiet characters is all of it
-pub quiet-run : (t : Text) (to : ℕ) → IsRun is_quiet t 0 to → (to == length t) ≡ quiet t
+pub quiet-run : (t : Text) (to : ℕ) → IsRun is_quiet t 0 to → (to == length t) ≡ quiet false t
 quiet-run t to run = ⊎_elim
     (λ less. ne_eqb to (length t) (λ e. omega arith) ∙ sym (list_all_at is_quiet t to 0 less (run.stops less)))
     (λ end. let within = run.within in eq-eqb to (length t) (omega arith) ∙ sym (list_all-from_AllPass is_quiet t (All-from_get_or (λ c. is_quiet c ≡ true) t 0 (λ i less. run.pass i (omega arith) (omega arith)))))

@@ -12,7 +12,7 @@ use Rattle.rst_text.proofs.CharacterLemmas.{is_alphanumeric-ascii}
 use Rattle.rst_text.proofs.PlacesLemmas.{cases_bool, lt_eq_gt, all_from-at, all_from-stop, last_from-is}
 use Rattle.rst_inline_scan.specs.Characters.{may_precede_start, may_follow}
 use Rattle.rst_text.specs.Escapes.{is_escaped, escapes}
-use Rattle.rst_text.specs.SimpleNames.{is_joint, is_name_at}
+use Rattle.rst_text.specs.SimpleNames.{is_name_at}
 use Rattle.rst_inline_scan.specs.Names.{ends_name, is_reference, name_end, reference_to, reference}
 use Rattle.rst_inline_scan.specs.Marked.{markup_of}
 use Rattle.rst_inline_scan.specs.Footnotes.{label}
@@ -20,7 +20,7 @@ use Rattle.rst_inline_scan.specs.Uri.{has_letter, has_any_case, schemes, scheme_
 use Rattle.std.proofs.Math.Nat.{eq-or-lt_of_le}
 use Rattle.rst_inline_scan.specs.Words.{IsWord, goes_on}
 use Rattle.rst_inline_scan.specs.Calm.{IsScanned}
-use Rattle.rst_inline_scan.specs.Pieces.{markup_at, is_free, piece_at, HasNoStart}
+use Rattle.rst_inline_scan.specs.Pieces.{markup_at, is_free, is_free_address, piece_at, HasNoStart}
 use Rattle.rst_text.proofs.EscapeLemmas.{other-bare, is_escaped-bare, is_escaped-more, is_escaped-start}
 use Rattle.rst_inline_scan.proofs.NameLemmas.{no-underscore, not_reference, is_reference-past}
 use Rattle.rst_inline_scan.proofs.UriLemmas.{letter_at, uri_end-none}
@@ -185,31 +185,36 @@ unfolding markup_at
 no-markup t i e bar none no_label = rw (none, no_label, no-reference t i e bar, no-uri t i e bar) refl
 
 -- nothing begins at a place where none of these does
-pub no-piece-barred : (t : Text) (from i e : ℕ) → IsBarred t i e → markup_of t i ≡ None → label t i ≡ None → piece_at t from i ≡ None
+pub no-piece-barred : (t : Text) (from i e : ℕ) → IsBarred t i e → markup_of t i ≡ None → label t i ≡ None → piece_at false t from i ≡ None
 unfolding piece_at
 no-piece-barred t from i e bar none no_label = cond_both (is_free t from i) (markup_at t i) None (λ r. r ≡ None) (λ free. no-markup t i e bar none no_label) (λ stuck. refl)
 
 -- nothing begins where a word does, if nothing goes on with it,
-pub no-piece : (t : Text) (from i to : ℕ) → IsWord t i to → i < to → goes_on t to ≡ false → piece_at t from i ≡ None
+pub no-piece : (t : Text) (from i to : ℕ) → IsWord t i to → i < to → goes_on t to ≡ false → piece_at false t from i ≡ None
 no-piece t from i to run some h =
     let letter = run.letters i (omega arith) some in
     let none : (c : ℕ) → is_ascii_alphanumeric c ≡ false → has t i c ≡ false = λ c other. absent is_ascii_alphanumeric t i c letter other in
     no-piece-barred t from i to (word-bars t i to run h) (unmarked t i (none 42 refl) (none 96 refl) (and_left _ _ (none 95 refl)) (none 124 refl) (none 58 refl)) (no-label t i (none 91 refl))
 
 -- and further on in it nothing does.
-inside-word : (t : Text) (from i to k : ℕ) → IsWord t i to → i < k → k ≤ to → piece_at t from k ≡ None
-unfolding piece_at is_free
-inside-word t from i to k run above upto =
+inside-word : (mail : Bool) (t : Text) (from i to k : ℕ) → IsWord t i to → from ≤ i → i < k → k ≤ to → piece_at mail t from k ≡ None
+unfolding piece_at is_free is_free_address
+inside-word false t from i to k run order above upto =
     let before : may_precede_start (get_or t (k - 1) 0) ≡ false = letter-before _ (run.letters (k - 1) (omega arith) (omega arith)) in
     rw before (grind (arith, nat_tests))
+inside-word true t from i to k run order above upto =
+    let before : may_precede_start (get_or t (k - 1) 0) ≡ false = letter-before _ (run.letters (k - 1) (omega arith) (omega arith)) in
+    let past : (k == 0) ≡ false = ne_eqb k 0 (λ same. omega arith) in
+    let later : (k == from) ≡ false = ne_eqb k from (λ same. omega arith) in
+    rw (before, past, later, and-false (not (is_escaped t from k))) refl
 
-none-word : (t : Text) (from i to : ℕ) → IsWord t i to → HasNoStart t from from i → piece_at t from i ≡ None → HasNoStart t from from (to + 1)
-none-word t from i to run none here k low high =
+none-word : (mail : Bool) (t : Text) (from i to : ℕ) → IsWord t i to → from ≤ i → HasNoStart mail t from from i → piece_at mail t from i ≡ None → HasNoStart mail t from from (to + 1)
+none-word mail t from i to run order none here k low high =
     ⊎_elim
     (λ before. none k low before)
     (λ rest. ⊎_elim
-    (λ same. subst (λ n. piece_at t from n ≡ None) (sym same) here)
-    (λ past. inside-word t from i to k run past (omega arith))
+    (λ same. subst (λ n. piece_at mail t from n ≡ None) (sym same) here)
+    (λ past. inside-word mail t from i to k run order past (omega arith))
     rest)
     (lt_eq_gt k i)
 
@@ -223,32 +228,32 @@ escaped-after t from i to escaped order above known other = elim (eq-or-lt_of_le
 ]
 
 -- no plain text yet
-pub scanned-none : (t : Text) (from : ℕ) → from ≤ length t → IsScanned t from from false
-scanned-none t from within = record { above = omega arith; within = within; none = λ i low high. absurd (omega arith); escaped = sym (is_escaped-start t from) }
+pub scanned-none : (mail : Bool) (t : Text) (from : ℕ) → from ≤ length t → IsScanned mail t from from false
+scanned-none mail t from within = record { above = omega arith; within = within; none = λ i low high. absurd (omega arith); escaped = sym (is_escaped-start t from) }
 
 -- so a word is passed
-word-over : (t : Text) (from i to : ℕ) (escaped : Bool) → IsWord t i to → piece_at t from i ≡ None → IsScanned t from i escaped → IsScanned t from to (escaped && i == to)
-word-over t from i to escaped run here known = record {
+word-over : (mail : Bool) (t : Text) (from i to : ℕ) (escaped : Bool) → IsWord t i to → piece_at mail t from i ≡ None → IsScanned mail t from i escaped → IsScanned mail t from to (escaped && i == to)
+word-over mail t from i to escaped run here known = record {
   above = omega (arith, known.above, run.above);
   within = run.within;
-  none = λ k low high. none-word t from i to run known.none here k low (omega arith);
+  none = λ k low high. none-word mail t from i to run known.above known.none here k low (omega arith);
   escaped = escaped-after t from i to escaped known.above run.above known.escaped
       (λ some. differs is_ascii_alphanumeric (get_or t (to - 1) 0) 92 (run.letters (to - 1) (omega arith) (omega arith)) refl);
 }
 
-pub word-scanned : (t : Text) (from i to : ℕ) (escaped : Bool) → IsWord t i to → piece_at t from i ≡ None → IsScanned t from i escaped → i < to → IsScanned t from to false
-word-scanned t from i to escaped run here known some = subst (IsScanned t from to) (ap (λ b. escaped && b) (ne_eqb i to (λ same. omega arith)) ∙ and-false escaped) (word-over t from i to escaped run here known)
+pub word-scanned : (mail : Bool) (t : Text) (from i to : ℕ) (escaped : Bool) → IsWord t i to → piece_at mail t from i ≡ None → IsScanned mail t from i escaped → i < to → IsScanned mail t from to false
+word-scanned mail t from i to escaped run here known some = subst (IsScanned mail t from to) (ap (λ b. escaped && b) (ne_eqb i to (λ same. omega arith)) ∙ and-false escaped) (word-over mail t from i to escaped run here known)
 
 -- and the character after it, where nothing begins either
-pub word-passed : (t : Text) (from i to : ℕ) (escaped : Bool) → IsWord t i to → piece_at t from i ≡ None → IsScanned t from i escaped → to < length t
-    → IsScanned t from (to + 1) (escapes (get_or t to 0) (escaped && i == to))
-word-passed t from i to escaped run here known inside =
-    let word = word-over t from i to escaped run here known in
+pub word-passed : (mail : Bool) (t : Text) (from i to : ℕ) (escaped : Bool) → IsWord t i to → piece_at mail t from i ≡ None → IsScanned mail t from i escaped → to < length t
+    → IsScanned mail t from (to + 1) (escapes (get_or t to 0) (escaped && i == to))
+word-passed mail t from i to escaped run here known inside =
+    let word = word-over mail t from i to escaped run here known in
     let above = word.above in
     record {
       above = omega arith;
       within = omega arith;
-      none = none-word t from i to run known.none here;
+      none = none-word mail t from i to run known.above known.none here;
       escaped = ap (escapes (get_or t to 0)) word.escaped ∙ sym (is_escaped-more t from to above);
     }
 

@@ -4,6 +4,7 @@ use Rattle.rst_text.specs.Characters.{Text}
 use Rattle.rst_inline_scan.specs.Marked.{has_start, markup_end}
 use Rattle.rst_inline_scan.specs.Names.{name_end}
 use Rattle.rst_inline_scan.specs.Uri.{uri_end}
+use Rattle.rst_inline_scan.specs.Mail.{address_end}
 use Rattle.rst_inline_scan.specs.declared.piece.Markup.{Markup}
 use Rattle.rst_inline_scan.specs.declared.piece.Markup.TheVariants.{Strong, Emphasis, Literal, Target, Substitution, Interpreted}
 use Rattle.rst_inline_scan.specs.declared.missing.Missing.{Missing}
@@ -26,3 +27,7 @@ pub record IsMissing (t : Text) (missing : Missing) (place : ℕ) : Type 0 where
   pub unended : (markup : Markup) → IsUnended markup t (slice_index missing.unended (code markup))
   pub names : (i : ℕ) → place ≤ i → i < missing.names → name_end t i ≡ None
   pub uris : (i : ℕ) → place ≤ i → i < missing.uris → uri_end t i ≡ None
+
+-- no address begins at the place or past it, up to another place
+abbrev pub HasNoAddress : Text → ℕ → ℕ → Type 0
+HasNoAddress t place searched = (i : ℕ) → place ≤ i → i < searched → address_end t i ≡ None

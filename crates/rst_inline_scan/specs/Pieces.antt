@@ -1,5 +1,5 @@
 -- The pieces of an inline text (Markup Specification, 'Inline markup recognition rules', 'Recognition order').
-use Rattle.std.specs.Prelude.{◌≡◌, ℕ, ◌-◌, ◌<◌, ◌≤◌, Bool, not, ◌&&◌, ◌||◌, ◌==◌, List, [], ◌∷◌, Option, None, Some, slice_index, length, option_and_then, if◌then◌else◌}
+use Rattle.std.specs.Prelude.{◌≡◌, ℕ, ◌-◌, ◌<◌, ◌≤◌, Bool, true, false, not, ◌&&◌, ◌||◌, ◌==◌, List, [], ◌∷◌, Option, None, Some, slice_index, length, option_and_then, if◌then◌else◌}
 use Rattle.std.specs.Option.{option_or}
 use Rattle.rst_text.specs.Characters.{Text}
 use Rattle.rst_inline_scan.specs.Characters.{may_precede_start}
@@ -8,6 +8,7 @@ use Rattle.rst_inline_scan.specs.Marked.{markup_of, marked}
 use Rattle.rst_inline_scan.specs.Names.{reference}
 use Rattle.rst_inline_scan.specs.Footnotes.{label}
 use Rattle.rst_inline_scan.specs.Uri.{uri}
+use Rattle.rst_inline_scan.specs.Mail.{address}
 use Rattle.rst_inline_scan.specs.declared.piece.Kind.TheVariants.{Plain}
 use Rattle.rst_inline_scan.specs.declared.piece.Piece.{Piece}
 
@@ -21,31 +22,44 @@ unfoldable pub is_free : Text → ℕ → ℕ → Bool
 is_free t from i = not (is_escaped t from i) && (i == 0 || may_precede_start (slice_index t (i - 1)))
 
 -- the piece that begins at i, if a start may occur there and markup begins
-unfoldable pub piece_at : Text → ℕ → ℕ → Option Piece
-piece_at t from i = if is_free t from i then markup_at t i else None
+abbrev pub markup_from : Text → ℕ → ℕ → Option Piece
+markup_from t from i = if is_free t from i then markup_at t i else None
+
+-- An address may begin at i: it is not escaped, and what precedes it fits, or plain text begins there.
+unfoldable pub is_free_address : Text → ℕ → ℕ → Bool
+is_free_address t from i = not (is_escaped t from i) && (i == from || may_precede_start (slice_index t (i - 1)))
+
+-- the address that begins at i, if it may begin there
+abbrev pub address_from : Text → ℕ → ℕ → Option Piece
+address_from t from i = if is_free_address t from i then address t i else None
+
+-- the piece that begins at i: markup or, where addresses are asked for and no markup begins, an address
+unfoldable pub piece_at : Bool → Text → ℕ → ℕ → Option Piece
+piece_at false t from i = markup_from t from i
+piece_at true t from i = option_or (markup_from t from i) (address_from t from i)
 
 -- there is no start at the places from `low` below `high`
-abbrev pub HasNoStart : Text → ℕ → ℕ → ℕ → Type 0
-HasNoStart t from low high = (i : ℕ) → low ≤ i → i < high → piece_at t from i ≡ None
+abbrev pub HasNoStart : Bool → Text → ℕ → ℕ → ℕ → Type 0
+HasNoStart mail t from low high = (i : ℕ) → low ≤ i → i < high → piece_at mail t from i ≡ None
 
 -- plain text from one place up to another
 abbrev pub plain_from : ℕ → ℕ → Piece
 plain_from from to = record { kind = Plain; from = from; content_from = from; content_to = to; to = to }
 
 -- a plain piece from `from`: it is not empty, and holds no start
-pub record IsPlain (t : Text) (from : ℕ) (p : Piece) : Type 0 where
+pub record IsPlain (mail : Bool) (t : Text) (from : ℕ) (p : Piece) : Type 0 where
   pub is_plain : p ≡ plain_from from p.to
   pub some : from < p.to
   pub within : p.to ≤ length t
-  pub none : HasNoStart t from from p.to
+  pub none : HasNoStart mail t from from p.to
 
 -- The pieces of the text from `from` on. A plain piece runs to the least start after it, or to the end where there is none;
 -- any other begins at a start.
-pub data IsPieces (t : Text) : ℕ → List Piece → Type 0 where
-  nothing : {from : ℕ} → from ≡ length t → IsPieces t from []
-  last : {from : ℕ} (p : Piece) → IsPlain t from p → p.to ≡ length t → IsPieces t from (p ∷ [])
-  other : {from : ℕ} (p : Piece) (ps : List Piece) → piece_at t from from ≡ Some p → IsPieces t p.to ps → IsPieces t from (p ∷ ps)
-  plain : {from : ℕ} (p q : Piece) (ps : List Piece) → IsPlain t from p → piece_at t from p.to ≡ Some q → IsPieces t q.to ps → IsPieces t from (p ∷ q ∷ ps)
+pub data IsPieces (mail : Bool) (t : Text) : ℕ → List Piece → Type 0 where
+  nothing : {from : ℕ} → from ≡ length t → IsPieces mail t from []
+  last : {from : ℕ} (p : Piece) → IsPlain mail t from p → p.to ≡ length t → IsPieces mail t from (p ∷ [])
+  other : {from : ℕ} (p : Piece) (ps : List Piece) → piece_at mail t from from ≡ Some p → IsPieces mail t p.to ps → IsPieces mail t from (p ∷ ps)
+  plain : {from : ℕ} (p q : Piece) (ps : List Piece) → IsPlain mail t from p → piece_at mail t from p.to ≡ Some q → IsPieces mail t q.to ps → IsPieces mail t from (p ∷ q ∷ ps)
 
 -- A piece lies within the text and is not empty, and what its markup encloses lies within the piece.
 pub record IsWithin (t : Text) (p : Piece) : Type 0 where

@@ -1,13 +1,13 @@
 -- The pieces of a text, found from left to right (Markup Specification, 'Inline markup recognition rules').
-use Rattle.std.specs.Prelude.{ℕ, zero, suc, ◌-◌, nat_lt, List, [], ◌∷◌, ◌++◌, length, Option, Some, None, is_some, if◌then◌else◌}
+use Rattle.std.specs.Prelude.{ℕ, zero, suc, ◌-◌, Bool, nat_lt, List, [], ◌∷◌, ◌++◌, length, Option, Some, None, is_some, if◌then◌else◌}
 use Rattle.rst_text.specs.Places.{first_from}
 use Rattle.rst_text.specs.Characters.{Text}
 use Rattle.rst_inline_scan.specs.Pieces.{piece_at, plain_from}
 use Rattle.rst_inline_scan.specs.declared.piece.Piece.{Piece}
 
 -- the least start at or after a place, where plain text begins
-abbrev pub next_start : Text → ℕ → Option ℕ
-next_start t from = first_from (λ i. is_some (piece_at t from i)) from (length t - from)
+abbrev pub next_start : Bool → Text → ℕ → Option ℕ
+next_start mail t from = first_from (λ i. is_some (piece_at mail t from i)) from (length t - from)
 
 -- a plain piece, unless it is empty
 abbrev pub plain_if : ℕ → ℕ → List Piece
@@ -19,15 +19,15 @@ piece_then None others = []
 piece_then (Some p) others = p ∷ others p.to
 
 -- the plain piece up to the next start, the piece that begins there, and those after it
-abbrev pub pieces_by : Text → ℕ → Option ℕ → (ℕ → List Piece) → List Piece
-pieces_by t from None others = plain_if from (length t)
-pieces_by t from (Some i) others = plain_if from i ++ piece_then (piece_at t from i) others
+abbrev pub pieces_by : Bool → Text → ℕ → Option ℕ → (ℕ → List Piece) → List Piece
+pieces_by mail t from None others = plain_if from (length t)
+pieces_by mail t from (Some i) others = plain_if from i ++ piece_then (piece_at mail t from i) others
 
 -- the pieces from a place on, with at most this many starts
-abbrev pub pieces_from : Text → ℕ → ℕ → List Piece
-pieces_from t zero from = []
-pieces_from t (suc n) from = pieces_by t from (next_start t from) (λ next. pieces_from t n next)
+abbrev pub pieces_from : Bool → Text → ℕ → ℕ → List Piece
+pieces_from mail t zero from = []
+pieces_from mail t (suc n) from = pieces_by mail t from (next_start mail t from) (λ next. pieces_from mail t n next)
 
 -- the pieces of a text, which has no more starts than characters
-unfoldable pub pieces_of : Text → List Piece
-pieces_of t = pieces_from t (suc (length t)) 0
+unfoldable pub pieces_of : Bool → Text → List Piece
+pieces_of mail t = pieces_from mail t (suc (length t)) 0

@@ -1,6 +1,6 @@
 -- The pieces of a text that is written out, for worked examples. No rule of markup.
 use Prim.Native.String.{String}
-use Rattle.std.specs.Prelude.{◌≡◌, List, map, take, drop, codes}
+use Rattle.std.specs.Prelude.{◌≡◌, Bool, false, true, List, map, take, drop, codes}
 use Rattle.rst_text.specs.Characters.{Text}
 use Rattle.rst_inline_scan.specs.Reading.{pieces_of}
 use Rattle.rst_inline_scan.specs.declared.piece.Kind.{Kind}
@@ -15,9 +15,17 @@ abbrev pub spelled_cut : Kind × String → Kind × Text
 spelled_cut (kind, text) = (kind, codes text)
 
 -- the text falls into these pieces
+abbrev pub CutsBy : Bool → String → List (Kind × String) → Type 0
+CutsBy mail text cuts = map (kind_and_source (codes text)) (pieces_of mail (codes text)) ≡ map spelled_cut cuts
+
+-- so it does where no addresses are asked for
 abbrev pub Cuts : String → List (Kind × String) → Type 0
-Cuts text cuts = map (kind_and_source (codes text)) (pieces_of (codes text)) ≡ map spelled_cut cuts
+Cuts text cuts = CutsBy false text cuts
+
+-- so it does where addresses are asked for
+abbrev pub CutsMail : String → List (Kind × String) → Type 0
+CutsMail text cuts = CutsBy true text cuts
 
 -- what the markup of each piece encloses
 abbrev pub contents : String → List Text
-contents text = map (λ p. drop p.content_from (take p.content_to (codes text))) (pieces_of (codes text))
+contents text = map (λ p. drop p.content_from (take p.content_to (codes text))) (pieces_of false (codes text))

@@ -1,5 +1,5 @@
 //! Calm characters, which are stepped over: at them no markup begins but a name or a URI, and none of these ends.
-ghost use Rattle.std.specs.Prelude.{◌≡◌, ℕ, ◌<◌, ◌≤◌, List, length};
+ghost use Rattle.std.specs.Prelude.{◌≡◌, ℕ, ◌<◌, ◌≤◌, false, List, length};
 ghost use Rattle.rst_inline_scan.specs.Calm.{AreBytesOf, is_of_name, IsScanned};
 
 use rst_text::{ByteTest, is_joint, run_end};
@@ -43,7 +43,7 @@ fn is_of_name(byte: u8) -> bool
 pub(crate) fn step(bytes: &[u8], place: usize, escaped: bool, searched: &mut usize) -> (usize, bool)
     requires { place < length bytes.now }
     ensures above { place ≤ result.0 }
-    ensures over { (text : List ℕ) (from : ℕ) → AreBytesOf text bytes.now → IsScanned text from place escaped → IsScanned text from result.0 result.1 }
+    ensures over { (text : List ℕ) (from : ℕ) → AreBytesOf text bytes.now → IsScanned false text from place escaped → IsScanned false text from result.0 result.1 }
 {
     if place < *searched {
         return (place, escaped);

@@ -5,6 +5,7 @@ mod calm;
 mod characters;
 mod footnotes;
 mod laws;
+mod mail;
 mod marked;
 mod missing;
 mod names;
@@ -16,7 +17,10 @@ mod tails;
 mod uri;
 mod words;
 
-pub use laws::{one_list_of_pieces, pieces_are_found, quiet_is_one_piece};
+pub use laws::{
+    addresses_need_an_at_sign, one_list_of_pieces, pieces_are_found, quiet_is_one_piece,
+};
+pub use mail::is_address;
 pub use piece::{Kind, Markup, Piece, Suffix};
 pub use quiet::is_quiet;
 pub use scanner::{pieces_of, pieces_of_ascii};

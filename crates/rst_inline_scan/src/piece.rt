@@ -50,6 +50,8 @@ pub enum Kind {
     Reference(Suffix),
     /// A standalone URI.
     Uri,
+    /// An e-mail address.
+    Address,
 }
 
 /// A piece of a text, by places that count its characters from 0.

@@ -1,5 +1,5 @@
 //! Quiet texts, which hold no markup and no escape.
-ghost use Rattle.std.specs.Prelude.{◌≡◌};
+ghost use Rattle.std.specs.Prelude.{◌≡◌, false};
 ghost use Rattle.rst_inline_scan.specs.Quiet.{is_quiet, quiet};
 
 use rst_text::{ByteTest, run_end};
@@ -29,10 +29,20 @@ impl ByteTest for Quiet {
     }
 }
 
-/// Whether the bytes are quiet: without the characters that markup or an escape needs. Then so is the text that they spell. Such a text is
-/// one plain piece, or none where it is empty ([`super::quiet_is_one_piece`]).
-pub fn is_quiet(text: &[u8]) -> bool
-    ensures { result ≡ quiet text.now }
+/// Whether the bytes are quiet: without the characters that markup or an escape needs and, where addresses are asked for, without `@`. Then
+/// so is the text that they spell. Such a text is one plain piece, or none where it is empty ([`super::quiet_is_one_piece`]).
+pub fn is_quiet(mail: bool, text: &[u8]) -> bool
+    ensures { result ≡ quiet mail text.now }
+{
+    if mail {
+        return is_unmarked(text) && !text.contains(&b'@');
+    }
+    is_unmarked(text)
+}
+
+/// Whether the bytes are without the characters that markup or an escape needs.
+fn is_unmarked(text: &[u8]) -> bool
+    ensures { result ≡ quiet false text.now }
 {
     run_end::<Quiet>(text, 0) == text.len()
 }

@@ -2,11 +2,12 @@
 //! that is written out.
 #![tactic(auto, unfolding(crate::proofs::Computing::rst_inline_scan))]
 
-ghost use Rattle.std.specs.Prelude.{◌≡◌, codes, filter, [], ◌∷◌};
+ghost use Rattle.std.specs.Prelude.{◌≡◌, true, false, codes, filter, map, [], ◌∷◌};
 ghost use Rattle.rst_inline_scan.specs.Characters.{may_follow, may_precede_start};
-ghost use Rattle.rst_inline_scan.specs.Reads.{Cuts, contents};
+ghost use Rattle.rst_inline_scan.specs.Reads.{Cuts, CutsMail, contents};
+ghost use Rattle.rst_inline_scan.specs.Mail.{is_address_char, is_address_last, is_address};
 ghost use Rattle.rst_inline_scan.specs.Uri.{is_uri_char, is_uri_trail};
-ghost use Rattle.rst_inline_scan.specs.declared.piece.Kind.TheVariants.{Plain, Marked, Unended, Label, Reference, Uri};
+ghost use Rattle.rst_inline_scan.specs.declared.piece.Kind.TheVariants.{Plain, Marked, Unended, Label, Reference, Uri, Address};
 ghost use Rattle.rst_inline_scan.specs.declared.piece.Markup.TheVariants.{Strong, Emphasis, Literal, Target, Substitution, Interpreted};
 ghost use Rattle.rst_inline_scan.specs.declared.piece.Suffix.TheVariants.{Bare, Role, Named, Anonymous};
 
@@ -148,6 +149,33 @@ pub fn uris()
     ensures not_free { Cuts "http://x< http://xé" ((Plain, "http://x< http://xé") ∷ []) }
     ensures reference_first { Cuts "mailto:a_ http://a_" ((Reference Named, "mailto:a_") ∷ (Plain, " ") ∷ (Uri, "http://a_") ∷ []) }
     ensures escaped { Cuts "\\http://a" ((Plain, "\\http://a") ∷ []) }
+{}
+
+/// E-mail addresses (Markup Specification, 'Standalone Hyperlinks').
+pub fn addresses()
+    ensures characters { filter is_address_char (codes "!\"#$%&'()*+,-./:;<=>?@[\\]^_`{|}~ aZ09ä") ≡ codes "!#$%&'*+-/=?^_`{|}~aZ09" }
+    ensures last_characters { filter is_address_last (codes "!\"#$%&'()*+,-./:;<=>?@[\\]^_`{|}~ aZ09ä") ≡ codes "*+/=_~aZ09" }
+    ensures before_a_period { CutsMail "to me@example.org." ((Plain, "to ") ∷ (Address, "me@example.org") ∷ (Plain, ".") ∷ []) }
+    ensures not_asked_for { Cuts "to me@example.org." ((Plain, "to me@example.org.") ∷ []) }
+    ensures one_character { CutsMail "a@b a@bc" ((Plain, "a@b ") ∷ (Address, "a@bc") ∷ []) }
+    ensures dot_first { CutsMail "a@b.c a@.cd" ((Address, "a@b.c") ∷ (Plain, " a@.cd") ∷ []) }
+    ensures brackets { CutsMail "<me@a.b>, (aa@bb) \"cc@dd\"" ((Plain, "<") ∷ (Address, "me@a.b") ∷ (Plain, ">, (") ∷ (Address, "aa@bb") ∷ (Plain, ") \"") ∷ (Address, "cc@dd") ∷ (Plain, "\"") ∷ []) }
+    ensures last_ends { CutsMail "me@ab? me@ab... me@ab-." ((Address, "me@ab") ∷ (Plain, "? ") ∷ (Address, "me@ab") ∷ (Plain, "... ") ∷ (Address, "me@ab") ∷ (Plain, "-.") ∷ []) }
+    ensures before_an_angle { CutsMail "<a@bc.> <a@bc)> <a@bc?>"
+        ((Plain, "<") ∷ (Address, "a@bc.") ∷ (Plain, "> <") ∷ (Address, "a@bc)") ∷ (Plain, "> <") ∷ (Address, "a@bc") ∷ (Plain, "?>") ∷ []) }
+    ensures letters_past_ascii { CutsMail "émile@b.c xé@b.c" ((Plain, "émile@b.c xé@b.c") ∷ []) }
+    ensures one_side { CutsMail "@user a@ @ a@b@c" ((Plain, "@user a@ @ a@b@c") ∷ []) }
+    ensures uri_first { CutsMail "ftp://me@a.b/x mailto:me@a.b" ((Uri, "ftp://me@a.b/x") ∷ (Plain, " ") ∷ (Uri, "mailto:me@a.b") ∷ []) }
+    ensures markup_first { CutsMail "*me@a.b* ``me@a.b`` |me@a.b"
+        ((Marked Emphasis Bare, "*me@a.b*") ∷ (Plain, " ") ∷ (Marked Literal Bare, "``me@a.b``") ∷ (Plain, " ") ∷ (Unended Substitution, "|") ∷ (Address, "me@a.b") ∷ []) }
+    ensures both_parts { CutsMail "a+b{c}@d.e?f=x&y=z" ((Address, "a+b{c}@d.e?f=x&y=z") ∷ []) }
+    ensures dots { CutsMail "a.b@cd a.b.@cd a..b@cd .a@bc" ((Address, "a.b@cd") ∷ (Plain, " a.b.@cd a..b@cd .a@bc") ∷ []) }
+    ensures underscores { CutsMail "john_@a.org me@a.org_ me@ab.org`" ((Address, "john_@a.org") ∷ (Plain, " ") ∷ (Address, "me@a.org_") ∷ (Plain, " ") ∷ (Address, "me@ab") ∷ (Plain, ".org`") ∷ []) }
+    ensures escapes { CutsMail "me\\@a.org m\\e@a.org m\\\\e@a.org" ((Plain, "me\\@a.org ") ∷ (Address, "m\\e@a.org") ∷ (Plain, " m\\\\e@a.org") ∷ []) }
+    ensures least_place { CutsMail "me/*b@cd.ef* x" ((Address, "me/*b@cd.ef*") ∷ (Plain, " x") ∷ []) }
+    ensures whole { map is_address (codes "x@y.z" ∷ codes "m+e@yz" ∷ []) ≡ true ∷ true ∷ [] }
+    ensures not_whole { map is_address (codes "é@y.z" ∷ codes "a@bcx " ∷ codes "a@bc." ∷ codes "mailto:a@bc" ∷ codes "m\\e@bc" ∷ codes "a@b" ∷ [] ∷ [])
+        ≡ false ∷ false ∷ false ∷ false ∷ false ∷ false ∷ false ∷ [] }
 {}
 
 /// What the markup of pieces encloses (Markup Specification, 'Inline Markup').

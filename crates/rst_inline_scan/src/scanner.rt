@@ -1,16 +1,17 @@
 //! The scanner.
-ghost use Rattle.std.specs.Prelude.{◌≡◌, ℕ, ◌<◌, ◌++◌, length, IfOk};
+ghost use Rattle.std.specs.Prelude.{◌≡◌, ℕ, ◌<◌, ◌≤◌, ◌++◌, true, false, length, IfOk};
 ghost use Rattle.rst_inline_scan.specs.Calm.{AreBytesOf};
 ghost use Rattle.rst_text.specs.Escapes.{is_escaped};
 ghost use Rattle.rst_inline_scan.specs.Marked.{markup_of};
 ghost use Rattle.rst_inline_scan.specs.Pieces.{markup_at, piece_at, IsPieces};
 ghost use Rattle.rst_inline_scan.specs.Reading.{plain_if};
-ghost use Rattle.rst_inline_scan.specs.Missing.{IsMissing};
+ghost use Rattle.rst_inline_scan.specs.Missing.{HasNoAddress, IsMissing};
 ghost use Rattle.rst_inline_scan.specs.Words.{IsWord};
 
 use super::calm::step;
 use super::characters::may_precede_start;
 use super::footnotes::label;
+use super::mail::address;
 use super::missing::Missing;
 use super::names::reference;
 use super::piece::{Kind, Markup, Piece};
@@ -71,7 +72,7 @@ fn piece_at(
     requires place { place < length text.now }
     requires word { IsWord text.now place end }
     requires known { IsMissing text.now missing.old place }
-    ensures exact { (from : ℕ) → escaped ≡ is_escaped text.now from place → result ≡ piece_at text.now from place }
+    ensures exact { (from : ℕ) → escaped ≡ is_escaped text.now from place → result ≡ piece_at false text.now from place }
     ensures known { IsMissing text.now missing.new place }
 {
     if place < end && !goes_on(text, end) {
@@ -84,12 +85,16 @@ fn piece_at(
     }
 }
 
-/// The pieces of the text, in order. Exactly one list is that of a text ([`super::one_list_of_pieces`]).
+/// The pieces of the text, in order, with e-mail addresses where `mail` asks for them. Exactly one list is that of a text
+/// ([`super::one_list_of_pieces`]).
 ///
 /// What a failed search has found to be absent is remembered, so that the time grows no faster than the text.
-pub fn pieces_of(alloc: Global, text: &[char]) -> Result<Vec<Piece>, AllocError>
-    ensures { IfOk result (λ pieces. IsPieces text.now 0 pieces.items) }
+pub fn pieces_of(alloc: Global, mail: bool, text: &[char]) -> Result<Vec<Piece>, AllocError>
+    ensures { IfOk result (λ pieces. IsPieces mail text.now 0 pieces.items) }
 {
+    if mail && text.contains(&'@') {
+        return pieces_and_addresses(alloc, text);
+    }
     let mut bytes = Vec::with_capacity(alloc, text.len())?;
     for c in text {
         bytes.push_reserved(if c.is_ascii() { *c as u8 } else { 128 });
@@ -98,17 +103,25 @@ pub fn pieces_of(alloc: Global, text: &[char]) -> Result<Vec<Piece>, AllocError>
 }
 
 /// The same of a text whose characters `bytes` are.
-pub fn pieces_of_ascii(alloc: Global, text: &[char], bytes: &[u8]) -> Result<Vec<Piece>, AllocError>
+pub fn pieces_of_ascii(
+    alloc: Global,
+    mail: bool,
+    text: &[char],
+    bytes: &[u8],
+) -> Result<Vec<Piece>, AllocError>
     requires { bytes.now ≡ text.now }
-    ensures { IfOk result (λ pieces. IsPieces text.now 0 pieces.items) }
+    ensures { IfOk result (λ pieces. IsPieces mail text.now 0 pieces.items) }
 {
+    if mail && bytes.contains(&b'@') {
+        return pieces_and_addresses(alloc, text);
+    }
     pieces_by(alloc, text, bytes)
 }
 
-/// The same with a byte for each character: that of ASCII, or one past ASCII. The steps over what holds no markup are wider in bytes.
+/// The pieces of a text with no addresses, with a byte for each character: that of ASCII, or one past ASCII. The steps over what holds no markup are wider in bytes.
 fn pieces_by(alloc: Global, text: &[char], bytes: &[u8]) -> Result<Vec<Piece>, AllocError>
     requires { AreBytesOf text.now bytes.now }
-    ensures { IfOk result (λ pieces. IsPieces text.now 0 pieces.items) }
+    ensures { IfOk result (λ pieces. IsPieces false text.now 0 pieces.items) }
 {
     // Prose has less than a piece for each 32 characters, and a short text with markup mostly three or four.
     let mut pieces = Vec::with_capacity(alloc, text.len() / 32 + 4)?;
@@ -141,6 +154,72 @@ fn pieces_by(alloc: Global, text: &[char], bytes: &[u8]) -> Result<Vec<Piece>, A
                     continue;
                 }
                 escaped = escapes(text[end], start_escaped & (start == end));
+                place = end + 1;
+            }
+        }
+    }
+    push_plain(&mut pieces, from, place)?;
+    Ok(pieces)
+}
+
+/// The piece that begins at the place, an address where no markup does.
+#[tactic(auto, unfolding(crate::specs::Pieces::piece_at, crate::specs::Pieces::is_free_address))]
+fn piece_or_address(
+    text: &[char],
+    from: usize,
+    place: usize,
+    end: usize,
+    escaped: bool,
+    missing: &mut Missing,
+    searched: &mut usize,
+) -> Option<Piece>
+    requires place { place < length text.now }
+    requires order { from ≤ place }
+    requires word { IsWord text.now place end }
+    requires known { IsMissing text.now missing.old place }
+    requires searched { HasNoAddress text.now place searched.old }
+    ensures exact { escaped ≡ is_escaped text.now from place → result ≡ piece_at true text.now from place }
+    ensures known { IsMissing text.now missing.new place }
+    ensures searched { HasNoAddress text.now place searched.new }
+{
+    if let Some(piece) = piece_at(text, place, end, escaped, missing) {
+        return Some(piece);
+    }
+    if !escaped && (place == from || may_precede_start(text[place - 1])) {
+        address(text, place, searched)
+    } else {
+        None
+    }
+}
+
+/// The pieces of a text, with addresses. Each word is looked at: few texts hold an `@`.
+fn pieces_and_addresses(alloc: Global, text: &[char]) -> Result<Vec<Piece>, AllocError>
+    ensures { IfOk result (λ pieces. IsPieces true text.now 0 pieces.items) }
+{
+    let mut pieces = Vec::with_capacity(alloc, text.len() / 32 + 4)?;
+    let mut from = 0;
+    let mut place = 0;
+    let mut escaped = false;
+    let mut missing = Missing::of(text);
+    let mut searched = 0;
+    while place < text.len() {
+        let end = word_end(text, place);
+        match piece_or_address(text, from, place, end, escaped, &mut missing, &mut searched) {
+            Some(piece) => {
+                push_plain(&mut pieces, from, place)?;
+                pieces.push(piece)?;
+                from = piece.to;
+                place = piece.to;
+                escaped = false;
+            }
+            None => {
+                // Nothing begins within a word or directly after it.
+                if end == text.len() {
+                    place = end;
+                    escaped = false;
+                    continue;
+                }
+                escaped = escapes(text[end], escaped & (place == end));
                 place = end + 1;
             }
         }

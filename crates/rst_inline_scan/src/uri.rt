@@ -43,7 +43,7 @@ fn scheme_end(text: &[char], place: usize) -> Option<usize>
 
 /// Whether a URI may hold the character.
 #[tactic(auto, unfolding(crate::specs::Uri::is_uri_char))]
-fn is_uri_char(c: char) -> bool
+pub(crate) fn is_uri_char(c: char) -> bool
     ensures { result ≡ is_uri_char c }
 {
     c.is_ascii_alphanumeric()

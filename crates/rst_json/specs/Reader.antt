@@ -92,19 +92,22 @@ json_items (code s n (suc more)) (b ∷ bs) = json_items (code s (n * 16 + digit
 
 abbrev pub tags : List Tag
 tags =
-    tag.Address ∷ tag.Admonition ∷ tag.Attention ∷ tag.Attribution ∷ tag.Author ∷ tag.Authors ∷ tag.BlockQuote ∷ tag.BulletList ∷ tag.Caption ∷ tag.Caution ∷
-    tag.Citation ∷ tag.CitationReference ∷ tag.Classifier ∷ tag.Colspec ∷ tag.Comment ∷ tag.Contact ∷ tag.Copyright ∷ tag.Danger ∷ tag.Date ∷ tag.Definition ∷
-    tag.DefinitionList ∷ tag.DefinitionListItem ∷ tag.Description ∷ tag.Docinfo ∷ tag.DoctestBlock ∷ tag.Document ∷ tag.Emphasis ∷ tag.Entry ∷ tag.EnumeratedList ∷
-    tag.Error ∷ tag.Field ∷ tag.FieldBody ∷ tag.FieldList ∷ tag.FieldName ∷ tag.Figure ∷ tag.Footnote ∷ tag.FootnoteReference ∷ tag.Hint ∷ tag.Image ∷ tag.Important ∷
-    tag.Label ∷ tag.Legend ∷ tag.Line ∷ tag.LineBlock ∷ tag.ListItem ∷ tag.Literal ∷ tag.LiteralBlock ∷ tag.Note ∷ tag.Option ∷ tag.OptionArgument ∷ tag.OptionGroup ∷
-    tag.OptionList ∷ tag.OptionListItem ∷ tag.OptionString ∷ tag.Organization ∷ tag.Paragraph ∷ tag.Problematic ∷ tag.Reference ∷ tag.Revision ∷ tag.Row ∷ tag.Section ∷
-    tag.Status ∷ tag.Strong ∷ tag.Subscript ∷ tag.SubstitutionDefinition ∷ tag.SubstitutionReference ∷ tag.Subtitle ∷ tag.Superscript ∷ tag.SystemMessage ∷ tag.Table ∷
-    tag.Target ∷ tag.Tbody ∷ tag.Term ∷ tag.Tgroup ∷ tag.Thead ∷ tag.Tip ∷ tag.Title ∷ tag.TitleReference ∷ tag.Topic ∷ tag.Transition ∷ tag.Version ∷ tag.Warning ∷ []
+    tag.Abbreviation ∷ tag.Acronym ∷ tag.Address ∷ tag.Admonition ∷ tag.Attention ∷ tag.Attribution ∷ tag.Author ∷ tag.Authors ∷ tag.BlockQuote ∷
+    tag.BulletList ∷ tag.Caption ∷ tag.Caution ∷ tag.Citation ∷ tag.CitationReference ∷ tag.Classifier ∷ tag.Colspec ∷ tag.Comment ∷ tag.Compound ∷
+    tag.Contact ∷ tag.Container ∷ tag.Copyright ∷ tag.Danger ∷ tag.Date ∷ tag.Definition ∷ tag.DefinitionList ∷ tag.DefinitionListItem ∷
+    tag.Description ∷ tag.Docinfo ∷ tag.DoctestBlock ∷ tag.Document ∷ tag.Emphasis ∷ tag.Entry ∷ tag.EnumeratedList ∷ tag.Error ∷ tag.Field ∷
+    tag.FieldBody ∷ tag.FieldList ∷ tag.FieldName ∷ tag.Figure ∷ tag.Footnote ∷ tag.FootnoteReference ∷ tag.Hint ∷ tag.Image ∷ tag.Important ∷
+    tag.Label ∷ tag.Legend ∷ tag.Line ∷ tag.LineBlock ∷ tag.ListItem ∷ tag.Literal ∷ tag.LiteralBlock ∷ tag.Math ∷ tag.MathBlock ∷ tag.Note ∷
+    tag.Option ∷ tag.OptionArgument ∷ tag.OptionGroup ∷ tag.OptionList ∷ tag.OptionListItem ∷ tag.OptionString ∷ tag.Organization ∷ tag.Paragraph ∷
+    tag.Problematic ∷ tag.Raw ∷ tag.Reference ∷ tag.Revision ∷ tag.Row ∷ tag.Rubric ∷ tag.Section ∷ tag.Sidebar ∷ tag.Status ∷ tag.Strong ∷
+    tag.Subscript ∷ tag.SubstitutionDefinition ∷ tag.SubstitutionReference ∷ tag.Subtitle ∷ tag.Superscript ∷ tag.SystemMessage ∷ tag.Table ∷
+    tag.Target ∷ tag.Tbody ∷ tag.Term ∷ tag.Tgroup ∷ tag.Thead ∷ tag.Tip ∷ tag.Title ∷ tag.TitleReference ∷ tag.Topic ∷ tag.Transition ∷
+    tag.Version ∷ tag.Warning ∷ []
 
 abbrev pub keys : List Key
 keys =
     key.Align ∷ key.Alt ∷ key.Anonymous ∷ key.Auto ∷ key.Backrefs ∷ key.Bullet ∷ key.Classes ∷ key.Cols ∷ key.Colwidth ∷ key.Delimiter ∷ key.Dupnames ∷ key.Enumtype ∷
-    key.Height ∷ key.Ids ∷ key.Inline ∷ key.Level ∷ key.Line ∷ key.Mark ∷ key.Message ∷ key.Morecols ∷ key.Morerows ∷ key.Name ∷ key.Names ∷ key.OwnName ∷ key.Prefix ∷
+    key.Format ∷ key.Height ∷ key.Ids ∷ key.Inline ∷ key.Level ∷ key.Line ∷ key.Mark ∷ key.Message ∷ key.Morecols ∷ key.Morerows ∷ key.Name ∷ key.Names ∷ key.OwnName ∷ key.Prefix ∷
     key.Rawsource ∷ key.Refid ∷ key.Refname ∷ key.Refuri ∷ key.Scale ∷ key.Serial ∷ key.Source ∷ key.Start ∷ key.Suffix ∷ key.TextMessages ∷ key.Title ∷ key.Type_ ∷
     key.Uri ∷ key.Width ∷ key.XmlSpace ∷ []
 

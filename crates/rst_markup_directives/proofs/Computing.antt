@@ -9,14 +9,15 @@ unfolding
     Rattle.rst_markup_directives.specs.Directive.run_in Rattle.rst_markup_directives.specs.Directive.directive_by_layout
     Rattle.rst_markup_directives.specs.Directive.read_block Rattle.rst_markup_directives.specs.Directive.directive_of
     Rattle.rst_markup_directives.specs.Judgement.permitted Rattle.rst_markup_directives.specs.Judgement.content_fault
-    Rattle.rst_markup_directives.specs.Kind.is_code Rattle.rst_markup_directives.specs.Kind.directive_named
-    Rattle.rst_markup_directives.specs.Layout.begins_field Rattle.rst_markup_directives.specs.Layout.layout_at
-    Rattle.rst_markup_directives.specs.Lines.joined_nonempty Rattle.rst_markup_directives.specs.Measure.number_len
-    Rattle.rst_markup_directives.specs.Measure.measure_of Rattle.rst_markup_directives.specs.Measure.scale_of
-    Rattle.rst_markup_directives.specs.Measure.alignment_of Rattle.rst_markup_directives.specs.OptionName.option_named
-    Rattle.rst_markup_directives.specs.Options.option_field Rattle.rst_markup_directives.specs.Options.settings_in
-    Rattle.rst_markup_directives.specs.Target.target_text Rattle.rst_markup_directives.specs.Target.is_simple_reference
-    Rattle.rst_markup_directives.specs.Target.is_phrase Rattle.rst_markup_directives.specs.Target.phrase_in
-    Rattle.rst_markup_directives.specs.Target.is_phrase_reference Rattle.rst_markup_directives.specs.Target.destination_in
-    Rattle.rst_markup_directives.specs.Target.target_value Rattle.rst_markup_directives.specs.Value.ids_of
+    Rattle.rst_markup_directives.specs.Kind.directive_named Rattle.rst_markup_directives.specs.Kind.is_wider_directive
+    Rattle.rst_markup_directives.specs.Kind.is_code Rattle.rst_markup_directives.specs.Layout.begins_field
+    Rattle.rst_markup_directives.specs.Layout.layout_at Rattle.rst_markup_directives.specs.Lines.joined_nonempty
+    Rattle.rst_markup_directives.specs.Measure.number_len Rattle.rst_markup_directives.specs.Measure.measure_of
+    Rattle.rst_markup_directives.specs.Measure.scale_of Rattle.rst_markup_directives.specs.Measure.alignment_of
+    Rattle.rst_markup_directives.specs.OptionName.option_named Rattle.rst_markup_directives.specs.Options.option_field
+    Rattle.rst_markup_directives.specs.Options.settings_in Rattle.rst_markup_directives.specs.Target.target_text
+    Rattle.rst_markup_directives.specs.Target.is_simple_reference Rattle.rst_markup_directives.specs.Target.is_phrase
+    Rattle.rst_markup_directives.specs.Target.phrase_in Rattle.rst_markup_directives.specs.Target.is_phrase_reference
+    Rattle.rst_markup_directives.specs.Target.destination_in Rattle.rst_markup_directives.specs.Target.target_value
+    Rattle.rst_markup_directives.specs.Value.ids_of
 rst_markup_directives = tt

@@ -1,5 +1,5 @@
 -- The parts of a directive are blocks of what its block is a part of.
-use Rattle.std.proofs.Common.{◌≡◌, ℕ, ◌+◌, ◌-◌, ◌≤◌, ◌==◌, Bool, not, List, [], ◌∷◌, length, take, drop, length-drop, Option, None, Some, option_map, Result, Ok, Err, arith, sym, ap, ◌∙◌, subst}
+use Rattle.std.proofs.Common.{◌≡◌, ℕ, ◌+◌, ◌-◌, ◌≤◌, ◌==◌, Bool, cond, not, List, [], ◌∷◌, length, take, drop, length-drop, Option, None, Some, Result, Ok, Err, arith, sym, ap, ◌∙◌, subst}
 use Rattle.std.specs.List.{prefix_len}
 use Rattle.std.proofs.lemmas.Bool.{cond_both}
 use Rattle.std.proofs.lemmas.List.{drop-drop, length-map, length-take}
@@ -14,26 +14,24 @@ use Rattle.rst_markup_blocks.specs.declared.part.Part.{Part}
 use Rattle.rst_markup_blocks.proofs.RowLaws.{while_le}
 use Rattle.rst_markup_blocks.specs.declared.lines.LineTest.TheVariants.{Blank}
 use Rattle.rst_markup_directives.specs.Argument.{ArgumentMeaning, title, word_of, argument_of}
-use Rattle.rst_markup_directives.specs.Call.{part_of, content_of, is_empty, IsContentIn, IsDirectiveIn}
+use Rattle.rst_markup_directives.specs.Call.{part_of, content_of, IsContentIn, IsDirectiveIn}
 use Rattle.rst_markup_directives.specs.Characters.{Text}
-use Rattle.rst_markup_directives.specs.Directive.{Read, Outcome, found, wrong, run_in, directive_options, read_parts, directive_by_layout, read_block, directive_outcome_at, of_block, judged_directive, directive_outcome}
-use Rattle.rst_markup_directives.specs.Judgement.{content_fault}
+use Rattle.rst_markup_directives.specs.Directive.{Read, Outcome, found, wrong, run_in, directive_options, read_parts, directive_by_layout, read_block, directive_outcome_at, fault_of, of_block, judged_directive, directive_outcome}
 use Rattle.rst_markup_directives.specs.Layout.{begins_field, before_field, parts_without_argument, layout_by, layout_at, layout_of}
 use Rattle.rst_markup_directives.specs.Lines.{first_run, blank_len, after_blank, joined_nonempty}
 use Rattle.rst_markup_directives.specs.Options.{OptionSetting}
-use Rattle.rst_markup_directives.specs.Wrong.{Wrong as WrongInside, and_then, unless, fault_in}
+use Rattle.rst_markup_directives.specs.Wrong.{Wrong as WrongInside, Fault, and_then, unless}
 use Rattle.rst_markup_directives.specs.declared.argument.Argument.TheVariants.{Absent}
-use Rattle.rst_markup_directives.specs.declared.fault.DirectiveFault.{DirectiveFault}
 use Rattle.rst_markup_directives.specs.declared.found.Content.{Content}
 use Rattle.rst_markup_directives.specs.declared.found.Directive.{Directive}
 use Rattle.rst_markup_directives.specs.declared.found.Directive.TheVariants.{Found, Wrong}
 use Rattle.rst_markup_directives.specs.declared.found.Place.{Place}
 use Rattle.rst_markup_directives.specs.declared.layout.Layout.{Layout}
 use Rattle.rst_markup_directives.specs.declared.kind.ContentKind.{ContentKind}
-use Rattle.rst_markup_directives.specs.declared.kind.ContentKind.TheVariants.{Paragraph}
+use Rattle.rst_markup_directives.specs.declared.kind.ContentKind.TheVariants.{Paragraph, Marked}
 use Rattle.rst_markup_directives.specs.declared.kind.Kind.{Kind}
 use Rattle.rst_markup_directives.specs.declared.kind.ArgumentKind.{ArgumentKind}
-use Rattle.rst_markup_directives.specs.declared.kind.ArgumentKind.TheVariants.{Absent as NoArgument, Title as TitleArgument, Uri as UriArgument, Language as LanguageArgument}
+use Rattle.rst_markup_directives.specs.declared.kind.ArgumentKind.TheVariants.{Absent as NoArgument, Title as TitleArgument, Uri as UriArgument, Language as LanguageArgument, Formats as FormatsArgument, Classes as ClassesArgument}
 use Rattle.rst_markup_directives.proofs.Parts.{length_cut}
 
 -- ---- lines of a block
@@ -87,6 +85,7 @@ without_within parts run all rest h k =
 
 parts_within : (parts : Parts) (content : ContentKind) (argument : ArgumentKind) (run : List Text) (all rest : ℕ) → length run ≤ all → rest ≤ all → IsWithin (layout_by parts content argument run all rest) all
 parts_within parts Paragraph argument run all rest h k = record { argument = omega arith; first = omega arith; second = omega arith }
+parts_within parts Marked NoArgument run all rest h k = without_within parts run all (cond (before_field parts run == 0) rest (length run)) h (cond_both (before_field parts run == 0) rest (length run) (λ n. n ≤ all) (λ _. k) (λ _. h))
 parts_within parts _ NoArgument run all rest h k = without_within parts run all rest h k
 parts_within parts _ _ run all rest h k = record { argument = omega (arith, before_field-le parts run); first = omega arith; second = omega arith }
 
@@ -124,6 +123,8 @@ word_in B words = cond_both (is_among words 32) _ _ (MayBeGivenIn B) (λ _. tt) 
 argument_in : (B : Block) (argument : ArgumentKind) (ts : List Text) (part : Part) → IsBlock B part → MayBeGivenIn B (argument_of argument ts part)
 argument_in B TitleArgument (t ∷ ts) part b = b
 argument_in B UriArgument [] part b = tt
+argument_in B FormatsArgument [] part b = tt
+argument_in B ClassesArgument [] part b = tt
 argument_in B LanguageArgument (t ∷ ts) part b = word_in B (normalized_white (joined_nonempty (t ∷ ts)))
 argument_in B _ _ part b = tt
 
@@ -148,9 +149,9 @@ read_in_block B kind late block H b count =
 
 judged_in : (B : Block) (place : Place) (paragraph : Bool) (source : Part) (read : Result Read WrongInside) → MayBeReadIn B read → IsOutcomeIn B (directive_outcome_at source (and_then (judged_directive place paragraph) (of_block read)))
 judged_in B place paragraph source (Err w) h = tt
-judged_in B place paragraph source (Ok read) h = by (content_fault read.kind (is_empty read.content) place paragraph)
+judged_in B place paragraph source (Ok read) h = by (fault_of place paragraph read)
   where
-    by : (fault : Option DirectiveFault) → IsOutcomeIn B (directive_outcome_at source (unless (option_map fault_in fault) (Ok read)))
+    by : (fault : Option Fault) → IsOutcomeIn B (directive_outcome_at source (unless fault (Ok read)))
     by (Some fault) = tt
     by None = h
 

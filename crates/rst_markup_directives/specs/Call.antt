@@ -1,6 +1,6 @@
 -- Directives as they are called (Markup Specification, 'Directives').
 use Rattle.std.specs.Prelude.{ℕ, ◌+◌, Bool, ◌&&◌, ◌==◌, drop, slice_range, Option, if◌then◌else◌}
-use Rattle.rst_text.specs.Block.{Block, first_text}
+use Rattle.rst_text.specs.Block.{Block, first_text, first_parts}
 use Rattle.rst_markup_directives.specs.Characters.{Text}
 use Rattle.rst_markup_directives.specs.Kind.{directive_named}
 use Rattle.rst_markup_directives.specs.declared.argument.Argument.{Argument}
@@ -20,7 +20,7 @@ name_text B at call = slice_range (first_text (drop at B)) call.name.from call.n
 
 -- the directive that is called; `code` is true if the one for program code is among them
 abbrev pub called_at : Bool → Block → ℕ → Invocation → Option Kind
-called_at code B at call = directive_named (name_text B at call) code
+called_at code B at call = directive_named (first_parts (drop at B)) (name_text B at call) code
 
 -- lines of a block as a part of what the block is a part of; the block's first line may lose another number of characters than the others
 abbrev pub part_of : Part → ℕ → ℕ → Part

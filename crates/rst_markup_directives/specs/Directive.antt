@@ -1,18 +1,19 @@
 -- What a directive is: its kind, argument, options and content, or what is wrong with it (Markup Specification,
 -- 'Directives'; the sections of Directives are in Kind, Judgement and Value).
-use Rattle.std.specs.Prelude.{ℕ, ◌-◌, Bool, ◌&&◌, nat_lt, List, [], take, drop, length, option_map, Option, Result, Ok, Err, ok_or, if◌then◌else◌}
+use Rattle.std.specs.Prelude.{ℕ, ◌-◌, Bool, ◌&&◌, ◌||◌, nat_lt, List, [], take, drop, length, option_map, Option, Some, None, Result, Ok, Err, ok_or, if◌then◌else◌}
+use Rattle.std.specs.Option.{option_or}
 use Rattle.std.specs.Result.{result_map_both}
 use Rattle.rst_settings.specs.declared.Parts.{Parts}
 use Rattle.rst_text.specs.Block.{Block, cut, first_parts}
-use Rattle.rst_markup_directives.specs.Argument.{ArgumentMeaning, given_in, argument_of}
+use Rattle.rst_markup_directives.specs.Argument.{ArgumentMeaning, classes, given_in, argument_of}
 use Rattle.rst_markup_directives.specs.Call.{called_at, part_of, content_of, is_empty}
 use Rattle.rst_markup_directives.specs.Characters.{Text}
-use Rattle.rst_markup_directives.specs.Judgement.{permitted, content_fault}
-use Rattle.rst_markup_directives.specs.Kind.{is_lines}
+use Rattle.rst_markup_directives.specs.Judgement.{permitted, content_fault, file_fault}
+use Rattle.rst_markup_directives.specs.Kind.{is_text}
 use Rattle.rst_markup_directives.specs.Layout.{layout_of}
 use Rattle.rst_markup_directives.specs.Lines.{first_run}
 use Rattle.rst_markup_directives.specs.Options.{fields_in, OptionSetting, choices_in, settings_in}
-use Rattle.rst_markup_directives.specs.Wrong.{Wrong, Fault, and_then, unless, option_block, inside, wrong_in, fault_in}
+use Rattle.rst_markup_directives.specs.Wrong.{Wrong, Fault, and_then, unless, option_block, inside, invalid_classes, wrong_in, fault_in}
 use Rattle.rst_markup_directives.specs.declared.calls.Reading.{Reading}
 use Rattle.rst_markup_directives.specs.declared.fault.Detail.{Detail}
 use Rattle.rst_markup_directives.specs.declared.found.Content.{Content}
@@ -27,10 +28,10 @@ use Rattle.rst_markup_blocks.specs.declared.part.Part.{Part}
 
 -- ---- the block
 
--- The lines that hold the argument and the options: those before the first blank one; none for program code whose block
--- begins late, not in the line after the directive's.
+-- The lines that hold the argument and the options: those before the first blank one. There are none in a block that begins late, not in the line
+-- after the directive's, if the content is a text, and under the part `unmarked` for any content.
 unfoldable pub run_in : Kind → Bool → Block → List Text
-run_in kind late H = if late && is_lines kind.content then [] else first_run H
+run_in kind late H = if late && (is_text kind.content || (first_parts H).unmarked) then [] else first_run H
 
 -- a directive whose options and argument are right
 pub record Read : Type 0 where
@@ -84,16 +85,26 @@ of_block read = result_map_both (λ read. read) inside read
 abbrev pub read_at : Block → ℕ → Part → Kind → Result Read Fault
 read_at B at block kind = of_block (read_block kind (is_late at block) block (cut B block.from block.to block.first_cut block.rest_cut))
 
--- a directive, unless its content has a fault
+-- a word among class names has no id
+abbrev pub classes_fault : ArgumentMeaning → Option Fault
+classes_fault (classes text None) = Some (invalid_classes text)
+classes_fault _ = None
+
+-- what is wrong with the options, the content or the place of a directive, or else with class names
+abbrev pub fault_of : Place → Bool → Read → Option Fault
+fault_of place paragraph read =
+    option_or (option_map fault_in (option_or (file_fault read.options) (content_fault read.kind (is_empty read.content) place paragraph))) (classes_fault read.argument)
+
+-- a directive, unless something is wrong with it
 abbrev pub judged_directive : Place → Bool → Read → Result Read Fault
-judged_directive place paragraph read = unless (option_map fault_in (content_fault read.kind (is_empty read.content) place paragraph)) (Ok read)
+judged_directive place paragraph read = unless (fault_of place paragraph read) (Ok read)
 
 -- the kind of a directive, if there is one and it is allowed there, or the fault
 abbrev pub named_directive : Option Kind → Place → Result Kind Fault
 named_directive kind place = result_map_both (λ kind. kind) fault_in (permitted kind place)
 
 -- What the directive of a kind is that is called in the line at a place of a block, with this block of its own; `paragraph` is true if
--- that is a single paragraph. The faults are looked for in this order: of its name, of its options, of its argument, of its content.
+-- that is a single paragraph. The faults are looked for in this order: of its name, of its options, of its argument, of its content, of class names.
 unfoldable pub directive_of : Option Kind → Block → ℕ → Part → Place → Bool → Outcome
 directive_of kind B at block place paragraph = directive_outcome_at (source_lines_at at block) (and_then (judged_directive place paragraph) (and_then (read_at B at block) (named_directive kind place)))
 

@@ -1,74 +1,130 @@
--- The directives: their names, what they take, and where they are allowed (Directives, 'Specific Admonitions', 'Generic Admonition', 'Topic',
--- 'Image', 'Figure', 'Code', 'Replacement Text', 'Common Options'; Markup Specification, 'Substitution Definitions').
-use Rattle.std.specs.Prelude.{Bool, true, false, List, [], ◌∷◌, ◌++◌, map, codes, Option, if◌then◌else◌}
+-- The directives: their names, what they take, where they are allowed, and which part of the profile has them (Directives, 'Specific
+-- Admonitions', 'Generic Admonition', 'Topic', 'Rubric', 'Image', 'Figure', 'Code', 'Parsed Literal Block', 'Raw Data Pass-Through', 'Including an
+-- External Document Fragment', 'Compound Paragraph', 'Container', 'Replacement Text', 'Common Options'; Markup Specification, 'Substitution
+-- Definitions').
+use Prim.Native.String.{String}
+use Rattle.std.specs.Prelude.{ℕ, Bool, true, false, List, [], ◌∷◌, codes, Option, Some, None, option_and_then, if◌then◌else◌}
 use Rattle.std.specs.List.{list_any}
+use Rattle.std.specs.Option.{option_map_or}
+use Rattle.std.specs.Str.{str_eq_ignore_ascii_case}
+use Rattle.rst_settings.specs.declared.Parts.{Parts}
 use Rattle.rst_tree.specs.declared.tag.Tag.{Tag}
-use Rattle.rst_tree.specs.declared.tag.Tag.TheVariants.{Admonition, Attention, Caution, Danger, Error, Figure as FigureTag, Hint, Image as ImageTag, Important, LiteralBlock, Note, Paragraph as ParagraphTag, Tip, Topic, Warning}
+use Rattle.rst_tree.specs.declared.tag.Tag.TheVariants as tag
 use Rattle.rst_markup_directives.specs.Characters.{Text, is_word, lookup}
 use Rattle.rst_markup_directives.specs.declared.kind.Allowed.{Allowed}
-use Rattle.rst_markup_directives.specs.declared.kind.Allowed.TheVariants.{Body, Sections, Substitution, Anywhere}
+use Rattle.rst_markup_directives.specs.declared.kind.Allowed.TheVariants.{Body, Sections, Substitution, Anywhere, Nowhere}
 use Rattle.rst_markup_directives.specs.declared.kind.ArgumentKind.{ArgumentKind}
-use Rattle.rst_markup_directives.specs.declared.kind.ArgumentKind.TheVariants.{Absent, Title, Uri, Language}
+use Rattle.rst_markup_directives.specs.declared.kind.ArgumentKind.TheVariants.{Absent, Title, Uri, Language, Formats, Classes}
 use Rattle.rst_markup_directives.specs.declared.kind.ContentKind.{ContentKind}
-use Rattle.rst_markup_directives.specs.declared.kind.ContentKind.TheVariants.{Empty as NoContent, Lines, Blocks, Paragraph, Caption}
+use Rattle.rst_markup_directives.specs.declared.kind.ContentKind.TheVariants.{Empty as NoContent, Lines, Marked, Blocks, Paragraph, Caption}
 use Rattle.rst_markup_directives.specs.declared.kind.Kind.{Kind}
 use Rattle.rst_markup_directives.specs.declared.kind.OptionSet.{OptionSet}
-use Rattle.rst_markup_directives.specs.declared.kind.OptionSet.TheVariants.{Empty as NoOptions, Common, Image, Figure}
+use Rattle.rst_markup_directives.specs.declared.kind.OptionSet.TheVariants.{Empty as NoOptions, Common, NameAlone, Raw as RawOptions, Include, Image, Figure}
+use Rattle.rst_markup_directives.specs.declared.kind.PartName.{PartName}
+use Rattle.rst_markup_directives.specs.declared.kind.PartName.TheVariants.{Usual, Code, Wider}
 use Rattle.rst_markup_directives.specs.declared.option.OptionName.{OptionName}
-use Rattle.rst_markup_directives.specs.declared.option.OptionName.TheVariants.{Class, Name, FigureWidth, FigureClass}
+use Rattle.rst_markup_directives.specs.declared.option.OptionName.TheVariants.{Class, Name, FigureWidth, FigureClass, File, Url, Inclusion}
 
 -- a directive by its element, its argument, its options, its content, and where it is allowed
 abbrev pub kind : Tag → ArgumentKind → OptionSet → ContentKind → Allowed → Kind
 kind element argument options content allowed =
     record { element = element; argument = argument; options = options; content = content; allowed = allowed }
 
+-- a directive and the part of the profile that has it
+abbrev pub PartKind : Type 0
+PartKind = PartName × Kind
+
+-- the same by its name
+abbrev pub row : String → PartName → Tag → ArgumentKind → OptionSet → ContentKind → Allowed → Text × PartKind
+row name part element argument options content allowed = (codes name, (part, kind element argument options content allowed))
+
+-- the directives by their names
+abbrev pub directives : List (Text × PartKind)
+directives =
+    row "code" Code tag.LiteralBlock Language Common Lines Body
+    ∷ row "code-block" Code tag.LiteralBlock Language Common Lines Body
+    ∷ row "sourcecode" Code tag.LiteralBlock Language Common Lines Body
+    ∷ row "attention" Usual tag.Attention Absent Common Blocks Body
+    ∷ row "caution" Usual tag.Caution Absent Common Blocks Body
+    ∷ row "danger" Usual tag.Danger Absent Common Blocks Body
+    ∷ row "error" Usual tag.Error Absent Common Blocks Body
+    ∷ row "hint" Usual tag.Hint Absent Common Blocks Body
+    ∷ row "important" Usual tag.Important Absent Common Blocks Body
+    ∷ row "note" Usual tag.Note Absent Common Blocks Body
+    ∷ row "tip" Usual tag.Tip Absent Common Blocks Body
+    ∷ row "warning" Usual tag.Warning Absent Common Blocks Body
+    ∷ row "admonition" Usual tag.Admonition Title Common Blocks Body
+    ∷ row "topic" Usual tag.Topic Title Common Blocks Sections
+    ∷ row "image" Usual tag.Image Uri Image NoContent Anywhere
+    ∷ row "figure" Usual tag.Figure Uri Figure Caption Body
+    ∷ row "replace" Usual tag.Paragraph Absent NoOptions Paragraph Substitution
+    ∷ row "rubric" Wider tag.Rubric Title Common NoContent Body
+    ∷ row "raw" Wider tag.Raw Formats RawOptions Lines Anywhere
+    ∷ row "parsed-literal" Wider tag.LiteralBlock Absent Common Marked Body
+    ∷ row "include" Wider tag.LiteralBlock Title Include NoContent Nowhere
+    ∷ row "compound" Wider tag.Compound Absent Common Blocks Body
+    ∷ row "container" Wider tag.Container Classes NameAlone Blocks Body
+    ∷ []
+
+-- a part of the profile is on; `code` is true if the directive for program code is
+abbrev pub is_on : Parts → Bool → PartName → Bool
+is_on parts code Usual = true
+is_on parts code Code = code
+is_on parts code Wider = parts.directives
+
+-- a directive, if its part is on
+abbrev pub if_on : Parts → Bool → PartKind → Option Kind
+if_on parts code row = if is_on parts code row.0 then Some row.1 else None
+
+-- the directive that a text names, if its part is on; `code` is true if the one for program code is among them
+unfoldable pub directive_named : Parts → Text → Bool → Option Kind
+directive_named parts t code = option_and_then (if_on parts code) (lookup (is_word t) directives)
+
+-- the part is that of the directives of the wider profile
+abbrev pub is_wider : PartName → Bool
+is_wider Wider = true
+is_wider _ = false
+
+-- the text, in bytes, names a directive of the wider profile
+unfoldable pub is_wider_directive : List ℕ → Bool
+is_wider_directive name = option_map_or (λ row. is_wider row.0) (lookup (str_eq_ignore_ascii_case name) directives) false
+
 -- the three names of the directive for program code
 abbrev pub code_names : List Text
 code_names = codes "code" ∷ codes "code-block" ∷ codes "sourcecode" ∷ []
 
--- the directive for program code by its names
-abbrev pub code_directives : List (Text × Kind)
-code_directives = map (λ name. (name, kind LiteralBlock Language Common Lines Body)) code_names
-
--- the other directives by their names
-abbrev pub other_directives : List (Text × Kind)
-other_directives =
-    (codes "attention", kind Attention Absent Common Blocks Body)
-    ∷ (codes "caution", kind Caution Absent Common Blocks Body)
-    ∷ (codes "danger", kind Danger Absent Common Blocks Body)
-    ∷ (codes "error", kind Error Absent Common Blocks Body)
-    ∷ (codes "hint", kind Hint Absent Common Blocks Body)
-    ∷ (codes "important", kind Important Absent Common Blocks Body)
-    ∷ (codes "note", kind Note Absent Common Blocks Body)
-    ∷ (codes "tip", kind Tip Absent Common Blocks Body)
-    ∷ (codes "warning", kind Warning Absent Common Blocks Body)
-    ∷ (codes "admonition", kind Admonition Title Common Blocks Body)
-    ∷ (codes "topic", kind Topic Title Common Blocks Sections)
-    ∷ (codes "image", kind ImageTag Uri Image NoContent Anywhere)
-    ∷ (codes "figure", kind FigureTag Uri Figure Caption Body)
-    ∷ (codes "replace", kind ParagraphTag Absent NoOptions Paragraph Substitution)
-    ∷ []
-
--- the text is one of the names of the directive for program code
+-- the text is one of them
 unfoldable pub is_code : Text → Bool
 is_code t = list_any (is_word t) code_names
 
--- the directive that a text names; `code` is true if the one for program code is among them
-unfoldable pub directive_named : Text → Bool → Option Kind
-directive_named t code = lookup (is_word t) ((if code then code_directives else []) ++ other_directives)
-
 -- ---- options
 
--- none, `class` and `name`, all but those of a figure alone, or all
+-- the option names a file, or a text elsewhere
+abbrev pub reads_file : OptionName → Bool
+reads_file File = true
+reads_file Url = true
+reads_file _ = false
+
+-- none, `class` and `name`, `name` alone, those of raw data, those of a file's inclusion, those of an image, or these and those of a figure
 abbrev pub has_option : OptionSet → OptionName → Bool
 has_option NoOptions option = false
 has_option Common Class = true
 has_option Common Name = true
 has_option Common _ = false
+has_option NameAlone Name = true
+has_option NameAlone _ = false
+has_option RawOptions Class = true
+has_option RawOptions option = reads_file option
+has_option Include Class = true
+has_option Include Name = true
+has_option Include Inclusion = true
+has_option Include _ = false
+has_option _ File = false
+has_option _ Url = false
+has_option _ Inclusion = false
 has_option Image FigureWidth = false
 has_option Image FigureClass = false
-has_option Image _ = true
-has_option Figure option = true
+has_option _ _ = true
 
 -- a figure alone may not be aligned vertically
 abbrev pub has_vertical : OptionSet → Bool
@@ -77,17 +133,25 @@ has_vertical _ = true
 
 -- ---- content
 
--- the content is lines of program code
-abbrev pub is_lines : ContentKind → Bool
-is_lines Lines = true
-is_lines _ = false
+-- the content is one text, with inline markup or without
+abbrev pub is_text : ContentKind → Bool
+is_text Lines = true
+is_text Marked = true
+is_text _ = false
+
+-- the content is a text with inline markup
+abbrev pub is_marked : ContentKind → Bool
+is_marked Marked = true
+is_marked _ = false
 
 -- the content is a single paragraph
 abbrev pub is_paragraph : ContentKind → Bool
 is_paragraph Paragraph = true
 is_paragraph _ = false
 
--- the content is a caption and a legend
-abbrev pub is_caption : ContentKind → Bool
-is_caption Caption = true
-is_caption _ = false
+-- the content is blocks
+abbrev pub has_blocks : ContentKind → Bool
+has_blocks Blocks = true
+has_blocks Paragraph = true
+has_blocks Caption = true
+has_blocks _ = false

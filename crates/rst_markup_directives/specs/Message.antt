@@ -1,6 +1,8 @@
 -- The texts of the messages on directives, in bytes (Document Tree, 'system_message').
 use Rattle.std.specs.Prelude.{ℕ, List, ◌++◌, codes, encode_utf8_all}
-use Rattle.rst_markup_directives.specs.Wrong.{Wrong, option_block, unknown, duplicate, invalid, no_argument, many_arguments, content_not_permitted, not_one_paragraph, Fault, not_in_substitution, unknown_directive, inside, no_content, topic_not_here, replace_not_here}
+use Rattle.rst_tree.specs.declared.note.Level.{Level}
+use Rattle.rst_tree.specs.declared.note.Level.TheVariants.{Warning, Error}
+use Rattle.rst_markup_directives.specs.Wrong.{Wrong, option_block, unknown, duplicate, invalid, no_argument, many_arguments, content_not_permitted, not_one_paragraph, Fault, not_in_substitution, unknown_directive, inside, no_content, topic_not_here, replace_not_here, disabled, invalid_classes}
 
 -- the second line of the message on a directive in which something is wrong
 abbrev pub wrong_text : Wrong → List ℕ
@@ -13,6 +15,10 @@ wrong_text many_arguments = codes "at most 1 argument permitted."
 wrong_text content_not_permitted = codes "no content permitted."
 wrong_text not_one_paragraph = codes "may contain a single paragraph only."
 
+-- the text of the message on class names of which one is wrong
+abbrev pub classes_text : List ℕ → List ℕ → List ℕ
+classes_text classes name = codes "Invalid class attribute value for \"" ++ (name ++ (codes "\" directive: \"" ++ (classes ++ codes "\".")))
+
 -- the text of the message on a wrong directive of this name; where a substitution definition may not hold it, the name is that of the definition
 abbrev pub fault_text : Fault → List ℕ → List ℕ
 fault_text not_in_substitution name = codes "Substitution definition \"" ++ name ++ codes "\" may hold only image or replace."
@@ -21,3 +27,10 @@ fault_text (inside wrong) name = codes "Error in \"" ++ name ++ codes "\" direct
 fault_text no_content name = codes "Content block expected for the \"" ++ name ++ codes "\" directive; none found."
 fault_text topic_not_here name = codes "The \"topic\" directive may not be used within topics or body elements."
 fault_text replace_not_here name = codes "Invalid context: the \"replace\" directive can only be used within a substitution definition."
+fault_text disabled name = codes "\"" ++ name ++ codes "\" directive disabled."
+fault_text (invalid_classes text) name = classes_text (encode_utf8_all text) name
+
+-- the level of that message
+abbrev pub fault_level : Fault → Level
+fault_level disabled = Warning
+fault_level _ = Error

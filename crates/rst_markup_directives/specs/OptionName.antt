@@ -1,14 +1,20 @@
--- The options of directives (Directives, 'Common Options', 'Image', 'Figure').
-use Rattle.std.specs.Prelude.{List, [], ◌∷◌, codes, Option}
+-- The options of directives (Directives, 'Common Options', 'Image', 'Figure', 'Raw Data Pass-Through', 'Including an External Document Fragment').
+use Rattle.std.specs.Prelude.{List, [], ◌∷◌, codes, map, Option}
 use Rattle.rst_markup_directives.specs.Characters.{Text, is_word, lookup}
 use Rattle.rst_markup_directives.specs.declared.option.OptionName.{OptionName}
-use Rattle.rst_markup_directives.specs.declared.option.OptionName.TheVariants.{Alt, Height, Width, Scale, Align, Target, Class, Name, FigureWidth, FigureClass}
+use Rattle.rst_markup_directives.specs.declared.option.OptionName.TheVariants.{Alt, Height, Width, Scale, Align, Target, Class, Name, FigureWidth, FigureClass, File, Url, Inclusion}
+
+-- the names of the options that `include` alone has
+abbrev pub inclusion_names : List Text
+inclusion_names =
+    codes "literal" ∷ codes "code" ∷ codes "number-lines" ∷ codes "start-line" ∷ codes "end-line" ∷ codes "start-after" ∷ codes "end-before" ∷ codes "tab-width" ∷ []
 
 -- the options by their names
 abbrev pub options : List (Text × OptionName)
 options =
     (codes "alt", Alt) ∷ (codes "height", Height) ∷ (codes "width", Width) ∷ (codes "scale", Scale) ∷ (codes "align", Align) ∷ (codes "target", Target)
-    ∷ (codes "class", Class) ∷ (codes "name", Name) ∷ (codes "figwidth", FigureWidth) ∷ (codes "figclass", FigureClass) ∷ []
+    ∷ (codes "class", Class) ∷ (codes "name", Name) ∷ (codes "figwidth", FigureWidth) ∷ (codes "figclass", FigureClass) ∷ (codes "file", File) ∷ (codes "url", Url)
+    ∷ map (λ name. (name, Inclusion)) inclusion_names
 
 -- the option that a text names
 unfoldable pub option_named : Text → Option OptionName

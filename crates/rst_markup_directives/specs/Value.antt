@@ -12,7 +12,7 @@ use Rattle.rst_markup_directives.specs.Target.{Destination, destination_of, targ
 use Rattle.rst_markup_directives.specs.declared.measure.Alignment.{Alignment}
 use Rattle.rst_markup_directives.specs.declared.kind.OptionSet.{OptionSet}
 use Rattle.rst_markup_directives.specs.declared.option.OptionName.{OptionName}
-use Rattle.rst_markup_directives.specs.declared.option.OptionName.TheVariants.{Alt, Height, Width, Scale, Align, Target, Class, Name as NameOption, FigureWidth, FigureClass}
+use Rattle.rst_markup_directives.specs.declared.option.OptionName.TheVariants.{Alt, Height, Width, Scale, Align, Target, Class, Name as NameOption, FigureWidth, FigureClass, File, Url, Inclusion}
 use Rattle.rst_markup_directives.specs.declared.value.OptionValue.{OptionValue}
 use Rattle.rst_markup_directives.specs.declared.value.OptionValue.TheVariants.{Text as TextValue, Measure, Number, Place, Classes, Link, Name as NameValue}
 
@@ -39,6 +39,10 @@ ids_of t = all_filled (map id_of (words_of t))
 
 -- ---- values
 
+-- a text, unless it is empty
+abbrev pub some_text : Text → Option Text
+some_text t = if is_blank t then None else Some t
+
 -- The meaning of an option's value, if the option can have it. In a name each run of white is one space, and case doesn't count.
 abbrev pub option_meaning : OptionSet → OptionName → Text → Option Meaning
 option_meaning options Alt t = Some (plain t)
@@ -51,6 +55,9 @@ option_meaning options Class t = option_map classed (ids_of t)
 option_meaning options NameOption t = Some (called (name_of t))
 option_meaning options FigureWidth t = option_map measured (measure_of t true true)
 option_meaning options FigureClass t = option_map classed (ids_of t)
+option_meaning options File t = option_map plain (some_text t)
+option_meaning options Url t = option_map plain (some_text t)
+option_meaning options Inclusion t = Some (plain t)
 
 -- ---- as they are kept
 

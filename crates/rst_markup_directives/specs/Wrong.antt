@@ -5,7 +5,7 @@ use Rattle.rst_markup_directives.specs.Characters.{Text}
 use Rattle.rst_markup_directives.specs.declared.fault.Detail.{Detail}
 use Rattle.rst_markup_directives.specs.declared.fault.Detail.TheVariants.{InvalidOptionBlock, UnknownOption, DuplicateOption, InvalidValue, NoArgument, ManyArguments, ContentNotPermitted, NotOneParagraph}
 use Rattle.rst_markup_directives.specs.declared.fault.DirectiveFault.{DirectiveFault}
-use Rattle.rst_markup_directives.specs.declared.fault.DirectiveFault.TheVariants.{NotInSubstitution, Unknown, Inside, NoContent, TopicNotHere, ReplaceNotHere}
+use Rattle.rst_markup_directives.specs.declared.fault.DirectiveFault.TheVariants.{NotInSubstitution, Unknown, Inside, NoContent, TopicNotHere, ReplaceNotHere, Disabled, InvalidClasses}
 
 -- what is wrong inside a directive; an option's name is given as it is written
 pub data Wrong : Type 0 where
@@ -36,6 +36,8 @@ pub data Fault : Type 0 where
   no_content : Fault
   topic_not_here : Fault
   replace_not_here : Fault
+  disabled : Fault
+  invalid_classes : Text → Fault
 
 -- ---- as they are kept
 
@@ -58,3 +60,5 @@ fault_in (Inside detail) = inside (wrong_in detail)
 fault_in NoContent = no_content
 fault_in TopicNotHere = topic_not_here
 fault_in ReplaceNotHere = replace_not_here
+fault_in Disabled = disabled
+fault_in (InvalidClasses text) = invalid_classes (chars_of text)

@@ -11,8 +11,8 @@ ghost use Rattle.rst_markup_directives.specs.Wrong.{and_then};
 use super::argument::{Argument, argument_of};
 use super::fault::{Detail, DirectiveFault};
 use super::found::{Content, Directive, Place};
-use super::judgement::{content_fault, permitted};
-use super::kind::{ContentKind, Kind};
+use super::judgement::{content_fault, file_fault, permitted};
+use super::kind::Kind;
 use super::layout::layout_of;
 use super::lines::run_of;
 use super::options::{Setting, excerpt, fields_of, settings_of};
@@ -36,7 +36,7 @@ pub fn called(
     ensures looks { looks.new ≡ capped (looks.old + 1) }
 {
     let name = excerpt(alloc, view.line(at, looks), invocation.name)?;
-    Ok(Kind::of(&name))
+    Ok(Kind::of(view.parts(at), &name))
 }
 
 /// What the directive of a kind is that is called at line `at` of a view with this block, or what is wrong with it. `paragraph`
@@ -86,8 +86,8 @@ struct Reading {
     content: Content,
 }
 
-/// Reads the block of a directive, up to the faults of its content. That of program code has no lines for an argument and
-/// options where it begins late, not in the line after the directive's.
+/// Reads the block of a directive, up to the faults of its content. Where it begins late, not in the line after
+/// the directive's, a text has no lines for an argument and options, nor has any content under the part `unmarked`.
 #[tactic(auto, using(crate::proofs::Parts::length_cut))]
 fn read(
     alloc: Global,
@@ -102,13 +102,15 @@ fn read(
     ensures looked { Looked 0 (1 + (block.to - block.from)) looks.old looks.new }
 {
     let lines = view.part(block.from, block.to, block.first_cut, block.rest_cut);
-    let none = late && kind.content == ContentKind::Lines;
+    let parts = first_parts(&lines);
+    let text = kind.content.is_text();
+    let none = late && (text || parts.unmarked);
     let run = run_of(alloc, none, &lines, looks)?;
     let rest = lines_end(&lines, run.len(), LineTest::Blank, looks);
-    read_run(alloc, first_parts(&lines), kind, block, &run, rest)
+    read_run(alloc, parts, kind, block, &run, rest)
 }
 
-/// The parts of the markup that hold in the first line of a view; none where there is no line.
+/// The parts of the wider profile that hold in the first line of a view; none where there is no line.
 fn first_parts(lines: &View<'_>) -> Parts
     ensures { result ≡ first_parts (block_of lines.now) }
 {
@@ -176,7 +178,7 @@ fn part_of(block: Part, from: usize, to: usize) -> Part
     }
 }
 
-/// What was read of a directive, judged by its content.
+/// What was read of a directive, judged by its options and its content.
 fn judged_directive(
     reading: Result<Reading, Detail>,
     place: Place,
@@ -198,9 +200,17 @@ fn judged_directive(
         }
     };
     let empty = content.first.from == content.first.to && content.second.from == content.second.to;
-    match content_fault(kind, empty, place, paragraph) {
-        Some(fault) => Directive::Wrong { fault, source },
-        None => Directive::Found {
+    let fault = match file_fault(options.as_slice()) {
+        None => content_fault(kind, empty, place, paragraph),
+        fault => fault,
+    };
+    match (fault, argument) {
+        (Some(fault), _) => Directive::Wrong { fault, source },
+        (None, Argument::Classes { text, ids: None }) => {
+            let fault = DirectiveFault::InvalidClasses(text);
+            Directive::Wrong { fault, source }
+        }
+        (None, argument) => Directive::Found {
             kind,
             argument,
             options,

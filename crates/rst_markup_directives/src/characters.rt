@@ -1,5 +1,6 @@
 //! Characters of texts that are given as slices, and tables of words.
 ghost use Rattle.std.specs.Prelude.{◌≡◌, ◌≤◌, IfOk, length, if◌then◌else◌};
+ghost use Rattle.std.specs.Str.{str_eq_ignore_ascii_case};
 ghost use Rattle.rst_text.specs.Text.{chars_of};
 ghost use Rattle.rst_text.specs.Block.{indentation, is_blank};
 ghost use Rattle.rst_text.specs.Characters.{is_among};
@@ -74,6 +75,25 @@ pub(crate) fn lookup<T: Copy>(text: &[char], table: &[(&str, T)], exactly: bool)
 {
     for (word, value) in table {
         if is_word(text, word, exactly) {
+            return Some(*value);
+        }
+    }
+    None
+}
+
+/// Whether two texts are the same without regard to the case of letters of ASCII.
+fn is_same_name(name: &str, other: &str) -> bool
+    ensures { result ≡ str_eq_ignore_ascii_case name.now other.now }
+{
+    name.eq_ignore_ascii_case(other)
+}
+
+/// What a table has for a name, without regard to the case of letters of ASCII.
+pub(crate) fn lookup_name<T: Copy>(name: &str, table: &[(&str, T)]) -> Option<T>
+    ensures { result ≡ spec.lookup (str_eq_ignore_ascii_case name.now) (spec.table_of table.now) }
+{
+    for (word, value) in table {
+        if is_same_name(name, word) {
             return Some(*value);
         }
     }

@@ -15,6 +15,10 @@ pub enum DirectiveFault {
     TopicNotHere,
     /// A replacement text outside of a substitution definition.
     ReplaceNotHere,
+    /// It reads a file.
+    Disabled,
+    /// A word among class names has no id.
+    InvalidClasses(String),
 }
 
 /// What is wrong inside a directive. An option's name is given as it is written.

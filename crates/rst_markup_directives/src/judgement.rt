@@ -1,10 +1,12 @@
 //! Where directives are allowed, and with which content.
 ghost use Rattle.std.specs.Prelude.{◌≡◌};
 ghost use Rattle.rst_markup_directives.specs.Judgement as spec;
+ghost use Rattle.rst_markup_directives.specs.Options.{choices_in};
 
 use super::fault::{Detail, DirectiveFault};
 use super::found::Place;
 use super::kind::{Allowed, ContentKind, Kind};
+use super::options::Setting;
 
 /// The kind of a directive, if there is one and it is allowed there; or the fault.
 #[tactic(auto, unfolding(crate::specs::Judgement::permitted))]
@@ -21,6 +23,18 @@ pub(crate) fn permitted(kind: Option<Kind>, place: Place) -> Result<Kind, Direct
     }
 }
 
+/// The fault of an option that names a file.
+pub(crate) fn file_fault(options: &[Setting]) -> Option<DirectiveFault>
+    ensures { result ≡ spec.file_fault (choices_in options.now) }
+{
+    for setting in options {
+        if setting.option.reads_file() {
+            return Some(DirectiveFault::Disabled);
+        }
+    }
+    None
+}
+
 /// The fault of a directive's content, which is empty or not, and maybe a single paragraph; or else of its place.
 #[tactic(auto, unfolding(crate::specs::Judgement::content_fault))]
 pub(crate) fn content_fault(
@@ -33,9 +47,10 @@ pub(crate) fn content_fault(
 {
     match (kind.content, empty) {
         (ContentKind::Empty, false) => Some(DirectiveFault::Inside(Detail::ContentNotPermitted)),
-        (ContentKind::Lines | ContentKind::Blocks | ContentKind::Paragraph, true) => {
-            Some(DirectiveFault::NoContent)
-        }
+        (
+            ContentKind::Lines | ContentKind::Marked | ContentKind::Blocks | ContentKind::Paragraph,
+            true,
+        ) => Some(DirectiveFault::NoContent),
         (ContentKind::Paragraph, false) if !paragraph => {
             Some(DirectiveFault::Inside(Detail::NotOneParagraph))
         }
@@ -43,6 +58,7 @@ pub(crate) fn content_fault(
             (Allowed::Sections, Place::Top) | (Allowed::Substitution, Place::Substitution) => None,
             (Allowed::Sections, _) => Some(DirectiveFault::TopicNotHere),
             (Allowed::Substitution, _) => Some(DirectiveFault::ReplaceNotHere),
+            (Allowed::Nowhere, _) => Some(DirectiveFault::Disabled),
             _ => None,
         },
     }

@@ -2,8 +2,9 @@
 ghost use Rattle.std.specs.Prelude.{◌≡◌, true};
 ghost use Rattle.rst_markup_directives.specs.Kind as spec;
 
-use super::characters::lookup;
+use super::characters::{lookup, lookup_name};
 use super::option::OptionName;
+use rst_settings::Parts;
 use rst_tree::Tag;
 
 /// What a directive takes, and where it is allowed. Directives of one kind are the same but for their names.
@@ -27,6 +28,10 @@ pub enum ArgumentKind {
     Uri,
     /// A language, or nothing.
     Language,
+    /// Formats, at least one.
+    Formats,
+    /// Class names, or nothing.
+    Classes,
 }
 
 /// The options of a directive.
@@ -35,9 +40,15 @@ pub enum OptionSet {
     Empty,
     /// `class` and `name`.
     Common,
-    /// All but those of a figure alone.
+    /// `name`.
+    NameAlone,
+    /// `class`, and those that name a file.
+    Raw,
+    /// `class`, `name`, and those that `include` alone has.
+    Include,
+    /// Those of an image.
     Image,
-    /// All.
+    /// Those of an image, and those of a figure alone.
     Figure,
 }
 
@@ -45,8 +56,10 @@ pub enum OptionSet {
 #[derive(Clone, Copy, Debug, PartialEq, Eq)]
 pub enum ContentKind {
     Empty,
-    /// Lines of program code, at least one.
+    /// A text without inline markup, at least one line.
     Lines,
+    /// A text with inline markup, at least one line.
+    Marked,
     /// Body elements, at least one.
     Blocks,
     /// One paragraph.
@@ -66,54 +79,131 @@ pub enum Allowed {
     Substitution,
     /// Where body elements are, and in a substitution definition.
     Anywhere,
+    /// Nowhere: it reads a file.
+    Nowhere,
 }
 
-/// A directive: its name, and its element, argument, options and content, and where it is allowed.
+/// The part of the profile that has a directive.
+#[derive(Clone, Copy, Debug, PartialEq, Eq)]
+pub enum PartName {
+    Usual,
+    /// That for program code, which is always on.
+    Code,
+    /// The directives of the wider profile.
+    Wider,
+}
+
+/// A directive: its name, the part that has it, and its element, argument, options and content, and where it is allowed.
 macro_rules! row {
     (
-        $name:literal, $element:ident, $argument:ident, $options:ident, $content:ident, $allowed:ident
+        $name:literal in $part:ident: $element:ident, $argument:ident, $options:ident, $content:ident, $allowed:ident
     ) => {
         (
             $name,
-            Kind {
-                element: Tag::$element,
-                argument: ArgumentKind::$argument,
-                options: OptionSet::$options,
-                content: ContentKind::$content,
-                allowed: Allowed::$allowed,
-            },
+            (
+                PartName::$part,
+                Kind {
+                    element: Tag::$element,
+                    argument: ArgumentKind::$argument,
+                    options: OptionSet::$options,
+                    content: ContentKind::$content,
+                    allowed: Allowed::$allowed,
+                },
+            ),
         )
     };
 }
 
 /// The directives by their names.
-const DIRECTIVES: [(&str, Kind); 17] = [
-    row!("code", LiteralBlock, Language, Common, Lines, Body),
-    row!("code-block", LiteralBlock, Language, Common, Lines, Body),
-    row!("sourcecode", LiteralBlock, Language, Common, Lines, Body),
-    row!("attention", Attention, Absent, Common, Blocks, Body),
-    row!("caution", Caution, Absent, Common, Blocks, Body),
-    row!("danger", Danger, Absent, Common, Blocks, Body),
-    row!("error", Error, Absent, Common, Blocks, Body),
-    row!("hint", Hint, Absent, Common, Blocks, Body),
-    row!("important", Important, Absent, Common, Blocks, Body),
-    row!("note", Note, Absent, Common, Blocks, Body),
-    row!("tip", Tip, Absent, Common, Blocks, Body),
-    row!("warning", Warning, Absent, Common, Blocks, Body),
-    row!("admonition", Admonition, Title, Common, Blocks, Body),
-    row!("topic", Topic, Title, Common, Blocks, Sections),
-    row!("image", Image, Uri, Image, Empty, Anywhere),
-    row!("figure", Figure, Uri, Figure, Caption, Body),
-    row!("replace", Paragraph, Absent, Empty, Paragraph, Substitution),
+const DIRECTIVES: [(&str, (PartName, Kind)); 23] = [
+    row!("code" in Code: LiteralBlock, Language, Common, Lines, Body),
+    row!("code-block" in Code: LiteralBlock, Language, Common, Lines, Body),
+    row!("sourcecode" in Code: LiteralBlock, Language, Common, Lines, Body),
+    row!("attention" in Usual: Attention, Absent, Common, Blocks, Body),
+    row!("caution" in Usual: Caution, Absent, Common, Blocks, Body),
+    row!("danger" in Usual: Danger, Absent, Common, Blocks, Body),
+    row!("error" in Usual: Error, Absent, Common, Blocks, Body),
+    row!("hint" in Usual: Hint, Absent, Common, Blocks, Body),
+    row!("important" in Usual: Important, Absent, Common, Blocks, Body),
+    row!("note" in Usual: Note, Absent, Common, Blocks, Body),
+    row!("tip" in Usual: Tip, Absent, Common, Blocks, Body),
+    row!("warning" in Usual: Warning, Absent, Common, Blocks, Body),
+    row!("admonition" in Usual: Admonition, Title, Common, Blocks, Body),
+    row!("topic" in Usual: Topic, Title, Common, Blocks, Sections),
+    row!("image" in Usual: Image, Uri, Image, Empty, Anywhere),
+    row!("figure" in Usual: Figure, Uri, Figure, Caption, Body),
+    row!("replace" in Usual: Paragraph, Absent, Empty, Paragraph, Substitution),
+    row!("rubric" in Wider: Rubric, Title, Common, Empty, Body),
+    row!("raw" in Wider: Raw, Formats, Raw, Lines, Anywhere),
+    row!("parsed-literal" in Wider: LiteralBlock, Absent, Common, Marked, Body),
+    row!("include" in Wider: LiteralBlock, Title, Include, Empty, Nowhere),
+    row!("compound" in Wider: Compound, Absent, Common, Blocks, Body),
+    row!("container" in Wider: Container, Classes, NameAlone, Blocks, Body),
 ];
 
+/// Whether a text names a directive of the wider profile, without regard to the case of letters of ASCII.
+pub fn is_wider_directive(name: &str) -> bool
+    ensures { result ≡ spec.is_wider_directive name.now }
+{
+    match lookup_name(name, &DIRECTIVES) {
+        Some((part, _)) => part.is_wider(),
+        None => false,
+    }
+}
+
 impl Kind {
-    /// The kind of the directive that a text names, without regard to the case of letters of ASCII.
+    /// The kind of the directive that a text names, without regard to the case of letters of ASCII, if its part is on.
     #[tactic(auto, unfolding(crate::specs::Kind::directive_named))]
-    pub(crate) fn of(text: &[char]) -> Option<Kind>
-        ensures { result ≡ spec.directive_named text.now true }
+    pub(crate) fn of(parts: Parts, text: &[char]) -> Option<Kind>
+        ensures { result ≡ spec.directive_named parts text.now true }
     {
-        lookup(text, &DIRECTIVES, false)
+        let (part, kind) = lookup(text, &DIRECTIVES, false)?;
+        if part.is_on(parts) { Some(kind) } else { None }
+    }
+}
+
+impl PartName {
+    /// Whether the part is that of the directives of the wider profile.
+    fn is_wider(self) -> bool
+        ensures { result ≡ spec.is_wider self }
+    {
+        self == PartName::Wider
+    }
+
+    /// Whether the part is on.
+    fn is_on(self, parts: Parts) -> bool
+        ensures { result ≡ spec.is_on parts true self }
+    {
+        match self {
+            PartName::Usual | PartName::Code => true,
+            PartName::Wider => parts.directives,
+        }
+    }
+}
+
+impl ContentKind {
+    /// Whether the content is blocks.
+    pub fn has_blocks(self) -> bool
+        ensures { result ≡ spec.has_blocks self }
+    {
+        matches!(
+            self,
+            ContentKind::Blocks | ContentKind::Paragraph | ContentKind::Caption
+        )
+    }
+
+    /// Whether the content is a text with inline markup.
+    pub fn is_marked(self) -> bool
+        ensures { result ≡ spec.is_marked self }
+    {
+        self == ContentKind::Marked
+    }
+
+    /// Whether the content is one text.
+    pub(crate) fn is_text(self) -> bool
+        ensures { result ≡ spec.is_text self }
+    {
+        matches!(self, ContentKind::Lines | ContentKind::Marked)
     }
 }
 
@@ -125,11 +215,17 @@ impl OptionSet {
         match self {
             OptionSet::Empty => false,
             OptionSet::Common => matches!(option, OptionName::Class | OptionName::Name),
-            OptionSet::Image => !matches!(
+            OptionSet::NameAlone => option == OptionName::Name,
+            OptionSet::Raw => option == OptionName::Class || option.reads_file(),
+            OptionSet::Include => matches!(
                 option,
-                OptionName::FigureWidth | OptionName::FigureClass
+                OptionName::Class | OptionName::Name | OptionName::Inclusion
             ),
-            OptionSet::Figure => true,
+            OptionSet::Image | OptionSet::Figure => match option {
+                OptionName::File | OptionName::Url | OptionName::Inclusion => false,
+                OptionName::FigureWidth | OptionName::FigureClass => self == OptionSet::Figure,
+                _ => true,
+            },
         }
     }
 }

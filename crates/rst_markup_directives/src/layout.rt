@@ -40,10 +40,14 @@ pub(crate) fn layout_of(parts: Parts, kind: Kind, run: &[&str], all: usize, rest
     ensures argument { result.argument ≤ length run.now }
     ensures options { result.options ≤ length run.now }
     ensures first { length run.now ≤ all → result.first ≤ all }
-    ensures second { rest ≤ all → result.second ≤ all }
+    ensures second { length run.now ≤ all → rest ≤ all → result.second ≤ all }
 {
     match (kind.content, kind.argument) {
         (ContentKind::Paragraph, _) => content_alone(run, all),
+        (ContentKind::Marked, ArgumentKind::Absent) => {
+            let from = before_field(parts, run);
+            parts_without_argument(parts, run, all, if from == 0 { rest } else { run.len() })
+        }
         (_, ArgumentKind::Absent) => parts_without_argument(parts, run, all, rest),
         _ => {
             // The argument ends where the options begin.

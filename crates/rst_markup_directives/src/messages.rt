@@ -4,12 +4,14 @@ ghost use Rattle.rst_markup_directives.specs.Message as spec;
 ghost use Rattle.rst_markup_directives.specs.Wrong.{fault_in, wrong_in};
 
 use super::fault::{Detail, DirectiveFault};
+use rst_tree::Level;
 use std::alloc::{AllocError, Global};
 
 /// The text of the message on a fault of a directive. `name` is the directive's name as it is written, or, of a
 /// directive that isn't allowed in a substitution definition, the name of that definition.
 ///
 /// The only refusal is [`AllocError`].
+#[tactic(auto, using(rst_text::proofs::TextLemmas::bytes_encoded))]
 pub fn message(alloc: Global, fault: &DirectiveFault, name: &str) -> Result<String, AllocError>
     ensures { IfOk result (λ text. string_bytes text ≡ spec.fault_text (fault_in fault.now) name.now) }
 {
@@ -35,6 +37,25 @@ pub fn message(alloc: Global, fault: &DirectiveFault, name: &str) -> Result<Stri
             alloc,
             "Invalid context: the \"replace\" directive can only be used within a substitution definition.",
         )?),
+        DirectiveFault::Disabled => Ok(format!(in alloc; "\"{name}\" directive disabled.")?),
+        DirectiveFault::InvalidClasses(classes) => Ok(classes_text(alloc, classes.as_str(), name)?),
+    }
+}
+
+/// The text of the message on class names of which one is wrong.
+fn classes_text(alloc: Global, classes: &str, name: &str) -> Result<String, AllocError>
+    ensures { IfOk result (λ text. string_bytes text ≡ spec.classes_text classes.now name.now) }
+{
+    format!(in alloc; "Invalid class attribute value for \"{name}\" directive: \"{classes}\".")
+}
+
+/// The level of that message.
+pub fn level_of(fault: &DirectiveFault) -> Level
+    ensures { result ≡ spec.fault_level (fault_in fault.now) }
+{
+    match fault {
+        DirectiveFault::Disabled => Level::Warning,
+        _ => Level::Error,
     }
 }
 

@@ -1,5 +1,6 @@
 //! The options of directives.
 ghost use Rattle.std.specs.Prelude.{◌≡◌};
+ghost use Rattle.rst_markup_directives.specs.Kind.{reads_file};
 ghost use Rattle.rst_markup_directives.specs.OptionName as spec;
 
 use super::characters::lookup;
@@ -17,10 +18,14 @@ pub enum OptionName {
     Name,
     FigureWidth,
     FigureClass,
+    File,
+    Url,
+    /// One that `include` alone has. Nothing is made of it, as no file is read.
+    Inclusion,
 }
 
 /// The options by their names.
-const OPTIONS: [(&str, OptionName); 10] = [
+const OPTIONS: [(&str, OptionName); 20] = [
     ("alt", OptionName::Alt),
     ("height", OptionName::Height),
     ("width", OptionName::Width),
@@ -31,9 +36,26 @@ const OPTIONS: [(&str, OptionName); 10] = [
     ("name", OptionName::Name),
     ("figwidth", OptionName::FigureWidth),
     ("figclass", OptionName::FigureClass),
+    ("file", OptionName::File),
+    ("url", OptionName::Url),
+    ("literal", OptionName::Inclusion),
+    ("code", OptionName::Inclusion),
+    ("number-lines", OptionName::Inclusion),
+    ("start-line", OptionName::Inclusion),
+    ("end-line", OptionName::Inclusion),
+    ("start-after", OptionName::Inclusion),
+    ("end-before", OptionName::Inclusion),
+    ("tab-width", OptionName::Inclusion),
 ];
 
 impl OptionName {
+    /// Whether it names a file, or a text elsewhere.
+    pub(crate) fn reads_file(self) -> bool
+        ensures { result ≡ reads_file self }
+    {
+        matches!(self, OptionName::File | OptionName::Url)
+    }
+
     /// The option that a text names, without regard to the case of letters of ASCII.
     #[tactic(auto, unfolding(crate::specs::OptionName::option_named))]
     pub fn of(text: &[char]) -> Option<OptionName>

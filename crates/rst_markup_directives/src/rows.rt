@@ -5,64 +5,82 @@
 ghost use Rattle.std.specs.Prelude.{◌≡◌, is_ok, option_map, true, false, Some, None, Ok, Err, codes, ◌∷◌, ◌++◌, [], map, filter, is_some};
 ghost use Rattle.rst_settings.specs.Parts.{all_parts, no_parts};
 ghost use Rattle.rst_text.specs.Written.{block};
+ghost use Rattle.rst_tree.specs.declared.note.Level.TheVariants.{Error, Warning};
 ghost use Rattle.rst_tree.specs.declared.tag.Tag.TheVariants as tag;
-ghost use Rattle.rst_markup_directives.specs.Argument.{language, nothing, title, uri};
+ghost use Rattle.rst_markup_directives.specs.Argument.{argument_of, classes, formats, language, nothing, title, uri};
 ghost use Rattle.rst_markup_directives.specs.Directive.{directive_at, found, read_block, wrong};
-ghost use Rattle.rst_markup_directives.specs.Judgement.{content_fault, permitted};
+ghost use Rattle.rst_markup_directives.specs.Judgement.{content_fault, file_fault, permitted};
 ghost use Rattle.rst_markup_directives.specs.Measure.{alignment_of, measure_of, scale_of};
-ghost use Rattle.rst_markup_directives.specs.Message.{fault_text, wrong_text};
-ghost use Rattle.rst_markup_directives.specs.Kind.{directive_named, has_option, kind};
+ghost use Rattle.rst_markup_directives.specs.Message.{fault_level, fault_text, wrong_text};
+ghost use Rattle.rst_markup_directives.specs.Kind.{directive_named, has_option, is_wider_directive, kind};
 ghost use Rattle.rst_markup_directives.specs.OptionName.{option_named};
 ghost use Rattle.rst_markup_directives.specs.Options.{fields_in};
 ghost use Rattle.rst_markup_directives.specs.Target.{located, named, target_value};
 ghost use Rattle.rst_markup_directives.specs.Value.{called, classed, ids_of, linked, measured, numbered, placed, plain, option_meaning};
-ghost use Rattle.rst_markup_directives.specs.Wrong.{duplicate, inside, invalid, many_arguments, no_argument, no_content, not_in_substitution, option_block, replace_not_here, topic_not_here, unknown, unknown_directive};
+ghost use Rattle.rst_markup_directives.specs.Wrong.{disabled, duplicate, inside, invalid, invalid_classes, many_arguments, no_argument, no_content, not_in_substitution, option_block, replace_not_here, topic_not_here, unknown, unknown_directive};
 ghost use Rattle.rst_markup_directives.specs.Wrong as faults;
 ghost use Rattle.rst_markup_directives.specs.declared.fault.Detail.TheVariants.{ContentNotPermitted, NotOneParagraph};
-ghost use Rattle.rst_markup_directives.specs.declared.fault.DirectiveFault.TheVariants.{Inside, NoContent, NotInSubstitution, ReplaceNotHere, TopicNotHere, Unknown};
+ghost use Rattle.rst_markup_directives.specs.declared.fault.DirectiveFault.TheVariants.{Disabled, Inside, NoContent, NotInSubstitution, ReplaceNotHere, TopicNotHere, Unknown};
 ghost use Rattle.rst_markup_directives.specs.declared.found.Place.TheVariants.{Body, Substitution, Top as Sections};
 ghost use Rattle.rst_markup_directives.specs.declared.measure.Alignment.TheVariants.{Bottom, Center, Left, Middle, Right, Top};
 ghost use Rattle.rst_markup_directives.specs.declared.kind.Allowed.TheVariants as allowed;
-ghost use Rattle.rst_markup_directives.specs.declared.kind.ArgumentKind.TheVariants.{Absent, Language, Title, Uri};
-ghost use Rattle.rst_markup_directives.specs.declared.kind.ContentKind.TheVariants.{Blocks, Caption, Empty, Lines, Paragraph};
-ghost use Rattle.rst_markup_directives.specs.declared.kind.OptionSet.TheVariants.{Common, Empty as NoOptions, Figure, Image};
-ghost use Rattle.rst_markup_directives.specs.declared.option.OptionName.TheVariants.{Align, Alt, Class, FigureClass, FigureWidth, Height, Name as NameOption, Scale, Target, Width};
+ghost use Rattle.rst_markup_directives.specs.declared.kind.ArgumentKind.TheVariants.{Absent, Classes, Formats, Language, Title, Uri};
+ghost use Rattle.rst_markup_directives.specs.declared.kind.ContentKind.TheVariants.{Blocks, Caption, Empty, Lines, Marked, Paragraph};
+ghost use Rattle.rst_markup_directives.specs.declared.kind.OptionSet.TheVariants.{Common, Empty as NoOptions, Figure, Image, Include, NameAlone, Raw as RawOptions};
+ghost use Rattle.rst_markup_directives.specs.declared.option.OptionName.TheVariants.{Align, Alt, Class, FigureClass, FigureWidth, File, Height, Inclusion, Name as NameOption, Scale, Target, Url, Width};
 
 /// Which directive a name is of (Markup Specification, 'Directives').
 pub fn names()
-    ensures admonitions { map (λ t. directive_named (codes t) false) ("attention" ∷ "caution" ∷ "danger" ∷ "error" ∷ "hint" ∷ "important" ∷ "note"
+    ensures admonitions { map (λ t. directive_named no_parts (codes t) false) ("attention" ∷ "caution" ∷ "danger" ∷ "error" ∷ "hint" ∷ "important" ∷ "note"
         ∷ "tip" ∷ "warning" ∷ [])
         ≡ map (λ element. Some (kind element Absent Common Blocks allowed.Body)) (tag.Attention ∷ tag.Caution ∷ tag.Danger ∷ tag.Error ∷ tag.Hint
         ∷ tag.Important ∷ tag.Note ∷ tag.Tip ∷ tag.Warning ∷ []) }
-    ensures titled { map (λ t. directive_named (codes t) false) ("admonition" ∷ "topic" ∷ [])
+    ensures titled { map (λ t. directive_named no_parts (codes t) false) ("admonition" ∷ "topic" ∷ [])
         ≡ Some (kind tag.Admonition Title Common Blocks allowed.Body) ∷ Some (kind tag.Topic Title Common Blocks allowed.Sections) ∷ [] }
-    ensures images { map (λ t. directive_named (codes t) false) ("image" ∷ "figure" ∷ [])
+    ensures images { map (λ t. directive_named no_parts (codes t) false) ("image" ∷ "figure" ∷ [])
         ≡ Some (kind tag.Image Uri Image Empty allowed.Anywhere) ∷ Some (kind tag.Figure Uri Figure Caption allowed.Body) ∷ [] }
-    ensures replace { directive_named (codes "replace") false ≡ Some (kind tag.Paragraph Absent NoOptions Paragraph allowed.Substitution) }
-    ensures code { map (λ t. directive_named (codes t) true) ("code" ∷ "code-block" ∷ "sourcecode" ∷ [])
+    ensures replace { directive_named no_parts (codes "replace") false ≡ Some (kind tag.Paragraph Absent NoOptions Paragraph allowed.Substitution) }
+    ensures code { map (λ t. directive_named no_parts (codes t) true) ("code" ∷ "code-block" ∷ "sourcecode" ∷ [])
         ≡ (let code = Some (kind tag.LiteralBlock Language Common Lines allowed.Body) in code ∷ code ∷ code ∷ []) }
-    ensures no_code { map (λ t. directive_named (codes t) false) ("code" ∷ "code-block" ∷ "sourcecode" ∷ []) ≡ None ∷ None ∷ None ∷ [] }
-    ensures case_of_letters { map (λ t. directive_named (codes t) true) ("NoTe" ∷ "Code-Block" ∷ "tıp" ∷ [])
+    ensures no_code { map (λ t. directive_named no_parts (codes t) false) ("code" ∷ "code-block" ∷ "sourcecode" ∷ []) ≡ None ∷ None ∷ None ∷ [] }
+    ensures case_of_letters { map (λ t. directive_named no_parts (codes t) true) ("NoTe" ∷ "Code-Block" ∷ "tıp" ∷ [])
         ≡ Some (kind tag.Note Absent Common Blocks allowed.Body) ∷ Some (kind tag.LiteralBlock Language Common Lines allowed.Body) ∷ None ∷ [] }
-    ensures left_out { filter (λ t. is_some (directive_named (codes t) true)) ("raw" ∷ "include" ∷ "table" ∷ "csv-table" ∷ "list-table" ∷ "math"
-        ∷ "contents" ∷ "class" ∷ "container" ∷ "rubric" ∷ "sidebar" ∷ "parsed-literal" ∷ "role" ∷ "unicode" ∷ "date" ∷ "notes" ∷ "not" ∷ [])
+    ensures further { map (λ t. directive_named all_parts (codes t) false) ("rubric" ∷ "raw" ∷ "parsed-literal" ∷ "include" ∷ "compound"
+        ∷ "container" ∷ [])
+        ≡ Some (kind tag.Rubric Title Common Empty allowed.Body) ∷ Some (kind tag.Raw Formats RawOptions Lines allowed.Anywhere)
+        ∷ Some (kind tag.LiteralBlock Absent Common Marked allowed.Body) ∷ Some (kind tag.LiteralBlock Title Include Empty allowed.Nowhere)
+        ∷ Some (kind tag.Compound Absent Common Blocks allowed.Body) ∷ Some (kind tag.Container Classes NameAlone Blocks allowed.Body) ∷ [] }
+    ensures without_their_part { filter (λ t. is_some (directive_named (record all_parts { directives = false }) (codes t) true)) ("rubric" ∷ "raw"
+        ∷ "parsed-literal" ∷ "include" ∷ "compound" ∷ "container" ∷ [])
+        ≡ [] }
+    ensures wider { filter (λ t. is_wider_directive (codes t)) ("note" ∷ "code" ∷ "Raw" ∷ "PARSED-literal" ∷ "ra" ∷ "raws" ∷ "math" ∷ "" ∷ [])
+        ≡ "Raw" ∷ "PARSED-literal" ∷ [] }
+    ensures left_out { filter (λ t. is_some (directive_named no_parts (codes t) true)) ("raw" ∷ "include" ∷ "table" ∷ "csv-table" ∷ "list-table" ∷ "math"
+        ∷ "contents" ∷ "class" ∷ "compound" ∷ "container" ∷ "rubric" ∷ "sidebar" ∷ "parsed-literal" ∷ "role" ∷ "unicode" ∷ "date" ∷ "notes" ∷ "not" ∷ [])
         ≡ [] }
 {}
 
 /// Which options the directives have (Directives, 'Common Options').
 pub fn option_names()
     ensures each { map (λ t. option_named (codes t)) ("alt" ∷ "height" ∷ "width" ∷ "scale" ∷ "align" ∷ "target" ∷ "class" ∷ "name" ∷ "figwidth"
-        ∷ "figclass" ∷ [])
+        ∷ "figclass" ∷ "file" ∷ "url" ∷ [])
         ≡ Some Alt ∷ Some Height ∷ Some Width ∷ Some Scale ∷ Some Align ∷ Some Target ∷ Some Class ∷ Some NameOption ∷ Some FigureWidth
-        ∷ Some FigureClass ∷ [] }
-    ensures case_of_letters { map (λ t. option_named (codes t)) ("FigWidth" ∷ "alt text" ∷ "number-lines" ∷ [])
+        ∷ Some FigureClass ∷ Some File ∷ Some Url ∷ [] }
+    ensures inclusion { map (λ t. option_named (codes t)) ("literal" ∷ "code" ∷ "number-lines" ∷ "start-line" ∷ "end-line" ∷ "start-after" ∷ "end-before"
+        ∷ "tab-width" ∷ "encoding" ∷ "parser" ∷ [])
+        ≡ (let own = Some Inclusion in own ∷ own ∷ own ∷ own ∷ own ∷ own ∷ own ∷ own ∷ None ∷ None ∷ []) }
+    ensures case_of_letters { map (λ t. option_named (codes t)) ("FigWidth" ∷ "alt text" ∷ "number-line" ∷ [])
         ≡ Some FigureWidth ∷ None ∷ None ∷ [] }
     ensures image { filter (λ o. has_option Image o) (Alt ∷ Height ∷ Width ∷ Scale ∷ Align ∷ Target ∷ Class ∷ NameOption ∷ FigureWidth ∷ FigureClass
-        ∷ [])
+        ∷ Inclusion ∷ [])
         ≡ Alt ∷ Height ∷ Width ∷ Scale ∷ Align ∷ Target ∷ Class ∷ NameOption ∷ [] }
-    ensures figure { filter (λ o. has_option Figure o) (Alt ∷ Target ∷ Class ∷ NameOption ∷ FigureWidth ∷ FigureClass ∷ [])
+    ensures figure { filter (λ o. has_option Figure o) (Alt ∷ Target ∷ Class ∷ NameOption ∷ FigureWidth ∷ FigureClass ∷ Inclusion ∷ [])
         ≡ Alt ∷ Target ∷ Class ∷ NameOption ∷ FigureWidth ∷ FigureClass ∷ [] }
+    ensures raw { filter (λ o. has_option RawOptions o) (Alt ∷ Class ∷ NameOption ∷ File ∷ Url ∷ []) ≡ Class ∷ File ∷ Url ∷ [] }
+    ensures files { filter (λ d. has_option d File) (NoOptions ∷ Common ∷ RawOptions ∷ Include ∷ Image ∷ Figure ∷ []) ≡ RawOptions ∷ [] }
+    ensures of_include { filter (λ o. has_option Include o) (Alt ∷ Class ∷ NameOption ∷ File ∷ Inclusion ∷ []) ≡ Class ∷ NameOption ∷ Inclusion ∷ [] }
     ensures common { filter (λ o. has_option Common o) (Alt ∷ Scale ∷ Align ∷ Target ∷ Class ∷ NameOption ∷ FigureClass ∷ []) ≡ Class ∷ NameOption ∷ [] }
+    ensures name_alone { filter (λ o. has_option NameAlone o) (Alt ∷ Class ∷ NameOption ∷ File ∷ []) ≡ NameOption ∷ [] }
     ensures none { filter (λ o. has_option NoOptions o) (Alt ∷ Class ∷ NameOption ∷ []) ≡ [] }
 {}
 
@@ -113,6 +131,7 @@ pub fn values()
     ensures empty_alt { option_meaning Image Alt (codes "") ≡ Some (plain []) }
     ensures alt { option_meaning Image Alt (codes "A\\ b") ≡ Some (plain (codes "A\\ b")) }
     ensures name { option_meaning Common NameOption (codes "A\n  b") ≡ Some (called (codes "a b")) }
+    ensures file { map (λ t. option_meaning RawOptions File (codes t)) ("a.html" ∷ "" ∷ []) ≡ Some (plain (codes "a.html")) ∷ None ∷ [] }
     ensures height { map (λ t. option_meaning Image Height (codes t)) ("50" ∷ "50%" ∷ []) ≡ Some (measured (codes "50")) ∷ None ∷ [] }
     ensures width { map (λ t. option_meaning Figure Width (codes t)) ("50" ∷ "50%" ∷ [])
         ≡ Some (measured (codes "50")) ∷ Some (measured (codes "50%")) ∷ [] }
@@ -171,7 +190,7 @@ pub fn blocks()
     ensures late_code { read_block (kind tag.LiteralBlock Language Common Lines allowed.Body) true (record { from = 2; to = 3; first_cut = 3; rest_cut = 3 }) (block (":class: c" ∷ []))
         ≡ Ok (record {
           kind = kind tag.LiteralBlock Language Common Lines allowed.Body;
-          argument = nothing;
+          argument = language None;
           options = [];
           content = record {
             first = record { from = 2; to = 2; first_cut = 3; rest_cut = 3 };
@@ -218,13 +237,41 @@ pub fn arguments()
     ensures with_language { read_block (kind tag.LiteralBlock Language Common Lines allowed.Body) false (record { from = 0; to = 3; first_cut = 9; rest_cut = 3 }) (block ("C++" ∷ "" ∷ ":a: b" ∷ []))
         ≡ Ok (record {
           kind = kind tag.LiteralBlock Language Common Lines allowed.Body;
-          argument = language (codes "C++");
+          argument = language (Some (codes "C++"));
           options = [];
           content = record {
             first = record { from = 0; to = 0; first_cut = 9; rest_cut = 3 };
             second = record { from = 2; to = 3; first_cut = 3; rest_cut = 3 };
           };
         }) }
+    ensures with_formats { read_block (kind tag.Raw Formats RawOptions Lines allowed.Anywhere) false (record { from = 0; to = 4; first_cut = 9; rest_cut = 3 }) (block ("HTML  latex"
+        ∷ ":class: c" ∷ "" ∷ "x" ∷ []))
+        ≡ Ok (record {
+          kind = kind tag.Raw Formats RawOptions Lines allowed.Anywhere;
+          argument = formats (codes "html latex");
+          options = (Class, classed (codes "c" ∷ []))
+              ∷ [];
+          content = record {
+            first = record { from = 0; to = 0; first_cut = 9; rest_cut = 3 };
+            second = record { from = 3; to = 4; first_cut = 3; rest_cut = 3 };
+          };
+        }) }
+    ensures blank_lines_in_a_text { read_block (kind tag.LiteralBlock Absent Common Marked allowed.Body) false (record { from = 0; to = 5; first_cut = 9; rest_cut = 3 }) (block ("a"
+        ∷ ":class: c" ∷ "" ∷ "" ∷ "b" ∷ []))
+        ≡ Ok (record {
+          kind = kind tag.LiteralBlock Absent Common Marked allowed.Body;
+          argument = nothing;
+          options = (Class, classed (codes "c" ∷ []))
+              ∷ [];
+          content = record {
+            first = record { from = 0; to = 1; first_cut = 9; rest_cut = 3 };
+            second = record { from = 2; to = 5; first_cut = 3; rest_cut = 3 };
+          };
+        }) }
+    ensures with_classes { map (λ t. argument_of Classes (codes t ∷ codes "B" ∷ []) (record { from = 0; to = 2; first_cut = 14; rest_cut = 3 })) ("a"
+        ∷ "a 1" ∷ [])
+        ≡ Ok (classes (codes "a\nB") (Some (codes "a" ∷ codes "b" ∷ []))) ∷ Ok (classes (codes "a 1\nB") None) ∷ [] }
+    ensures no_classes { argument_of Classes [] (record { from = 0; to = 0; first_cut = 0; rest_cut = 0 }) ≡ Ok nothing }
 {}
 
 /// What is wrong with an option or an argument, of which the first counts (Markup Specification, 'Directives').
@@ -243,6 +290,8 @@ pub fn wrong_blocks()
         ≡ Err no_argument }
     ensures option_for_an_argument { read_block (kind tag.Admonition Title Common Blocks allowed.Body) true (record { from = 2; to = 3; first_cut = 3; rest_cut = 3 }) (block (":class: x" ∷ []))
         ≡ Err no_argument }
+    ensures no_formats { read_block (kind tag.Raw Formats RawOptions Lines allowed.Anywhere) true (record { from = 0; to = 1; first_cut = 0; rest_cut = 0 }) (block ("x" ∷ []))
+        ≡ Err no_argument }
     ensures text_among_options { read_block (kind tag.Note Absent Common Blocks allowed.Body) false (record { from = 0; to = 2; first_cut = 0; rest_cut = 0 }) (block (":class: a" ∷ "b" ∷ []))
         ≡ Err option_block }
 {}
@@ -251,21 +300,33 @@ pub fn wrong_blocks()
 pub fn places()
     ensures unknown_name { permitted None Body ≡ Err Unknown }
     ensures unknown_in_a_definition { permitted None Substitution ≡ Err NotInSubstitution }
-    ensures in_a_definition { filter (λ t. is_ok (permitted (directive_named (codes t) true) Substitution)) ("note" ∷ "topic" ∷ "image" ∷ "figure"
+    ensures in_a_definition { filter (λ t. is_ok (permitted (directive_named no_parts (codes t) true) Substitution)) ("note" ∷ "topic" ∷ "image" ∷ "figure"
         ∷ "replace" ∷ "code" ∷ [])
         ≡ "image" ∷ "replace" ∷ [] }
-    ensures not_in_a_definition { permitted (directive_named (codes "figure") true) Substitution ≡ Err NotInSubstitution }
-    ensures without_content { map (λ t. option_map (λ k. content_fault k true Body false) (directive_named (codes t) true)) ("note" ∷ "admonition"
+    ensures not_in_a_definition { permitted (directive_named no_parts (codes "figure") true) Substitution ≡ Err NotInSubstitution }
+    ensures without_content { map (λ t. option_map (λ k. content_fault k true Body false) (directive_named no_parts (codes t) true)) ("note" ∷ "admonition"
         ∷ "topic" ∷ "code" ∷ "replace" ∷ "image" ∷ "figure" ∷ [])
         ≡ map (λ fault. Some fault) (Some NoContent ∷ Some NoContent ∷ Some NoContent ∷ Some NoContent ∷ Some NoContent ∷ None ∷ None ∷ []) }
-    ensures with_content { map (λ t. option_map (λ k. content_fault k false Body true) (directive_named (codes t) true)) ("note" ∷ "topic" ∷ "image"
+    ensures with_content { map (λ t. option_map (λ k. content_fault k false Body true) (directive_named no_parts (codes t) true)) ("note" ∷ "topic" ∷ "image"
         ∷ "figure" ∷ "replace" ∷ [])
         ≡ map (λ fault. Some fault) (None ∷ Some TopicNotHere ∷ Some (Inside ContentNotPermitted) ∷ None ∷ Some ReplaceNotHere ∷ []) }
-    ensures topic { option_map (λ k. content_fault k false Sections false) (directive_named (codes "topic") true) ≡ Some None }
-    ensures replacement { map (λ paragraph. option_map (λ k. content_fault k false Substitution paragraph) (directive_named (codes "replace") true)) (true
+    ensures topic { option_map (λ k. content_fault k false Sections false) (directive_named no_parts (codes "topic") true) ≡ Some None }
+    ensures replacement { map (λ paragraph. option_map (λ k. content_fault k false Substitution paragraph) (directive_named no_parts (codes "replace") true)) (true
         ∷ false ∷ [])
         ≡ Some None ∷ Some (Some (Inside NotOneParagraph)) ∷ [] }
-    ensures two_paragraphs { option_map (λ k. content_fault k false Body false) (directive_named (codes "replace") true)
+    ensures no_text { map (λ t. option_map (λ k. content_fault k true Body false) (directive_named all_parts (codes t) true)) ("rubric" ∷ "raw"
+        ∷ "parsed-literal" ∷ "compound" ∷ "container" ∷ [])
+        ≡ map (λ fault. Some fault) (None ∷ Some NoContent ∷ Some NoContent ∷ Some NoContent ∷ Some NoContent ∷ []) }
+    ensures text { map (λ t. option_map (λ k. content_fault k false Body false) (directive_named all_parts (codes t) true)) ("rubric" ∷ "raw"
+        ∷ "parsed-literal" ∷ [])
+        ≡ map (λ fault. Some fault) (Some (Inside ContentNotPermitted) ∷ None ∷ None ∷ []) }
+    ensures further_in_a_definition { filter (λ t. is_ok (permitted (directive_named all_parts (codes t) true) Substitution)) ("rubric" ∷ "raw"
+        ∷ "parsed-literal" ∷ "include" ∷ [])
+        ≡ "raw" ∷ [] }
+    ensures include { map (λ empty. option_map (λ k. content_fault k empty Body false) (directive_named all_parts (codes "include") true)) (true ∷ false ∷ [])
+        ≡ Some (Some Disabled) ∷ Some (Some (Inside ContentNotPermitted)) ∷ [] }
+    ensures raw_file { map (λ o. file_fault ((o, plain (codes "a")) ∷ [])) (File ∷ Url ∷ Class ∷ []) ≡ Some Disabled ∷ Some Disabled ∷ None ∷ [] }
+    ensures two_paragraphs { option_map (λ k. content_fault k false Body false) (directive_named no_parts (codes "replace") true)
         ≡ Some (Some (Inside NotOneParagraph)) }
 {}
 
@@ -299,7 +360,7 @@ pub fn directives()
         ∷ [])) 3 (record { name = record { from = 3; to = 7 }; block = record { from = 5; to = 6; first_cut = 3; rest_cut = 3 } }) Body true
         ≡ found (record {
           kind = kind tag.LiteralBlock Language Common Lines allowed.Body;
-          argument = nothing;
+          argument = language None;
           options = [];
           content = record {
             first = record { from = 5; to = 5; first_cut = 3; rest_cut = 3 };
@@ -310,7 +371,7 @@ pub fn directives()
         ∷ [])) 0 (record { name = record { from = 3; to = 7 }; block = record { from = 1; to = 4; first_cut = 3; rest_cut = 3 } }) Body true
         ≡ found (record {
           kind = kind tag.LiteralBlock Language Common Lines allowed.Body;
-          argument = nothing;
+          argument = language None;
           options = (Class, classed (codes "c" ∷ []))
               ∷ [];
           content = record {
@@ -343,5 +404,8 @@ pub fn messages()
     ensures topic { fault_text topic_not_here (codes "topic") ≡ codes "The \"topic\" directive may not be used within topics or body elements." }
     ensures replacement { fault_text replace_not_here (codes "replace")
         ≡ codes "Invalid context: the \"replace\" directive can only be used within a substitution definition." }
+    ensures disabled { fault_text disabled (codes "include") ≡ codes "\"include\" directive disabled." }
+    ensures classes { fault_text (invalid_classes (codes "1")) (codes "Container") ≡ codes "Invalid class attribute value for \"Container\" directive: \"1\"." }
+    ensures levels { map (λ f. fault_level f) (disabled ∷ no_content ∷ invalid_classes [] ∷ []) ≡ Warning ∷ Error ∷ Error ∷ [] }
     ensures definition { fault_text not_in_substitution (codes "a") ≡ codes "Substitution definition \"a\" may hold only image or replace." }
 {}

@@ -14,7 +14,7 @@ use std::alloc::{AllocError, Global};
 /// What the value of an option means.
 #[derive(Debug, Drop)]
 pub enum OptionValue {
-    /// The text of `alt`.
+    /// The text of `alt`, `file` and `url`, and of the options that `include` alone has.
     Text(String),
     /// The measure of `height`, `width` and `figwidth`.
     Measure(String),
@@ -40,7 +40,9 @@ pub(crate) fn option_value(
     ensures { IfOk result (λ meaning. option_map spec.meaning_of meaning ≡ spec.option_meaning options option value.now) }
 {
     match option {
-        OptionName::Alt => Ok(Some(OptionValue::Text(text_from(alloc, value)?))),
+        OptionName::Alt | OptionName::Inclusion => {
+            Ok(Some(OptionValue::Text(text_from(alloc, value)?)))
+        }
         OptionName::Height | OptionName::Width | OptionName::FigureWidth => {
             let percent = option != OptionName::Height;
             let wanted = option == OptionName::FigureWidth;
@@ -64,11 +66,17 @@ pub(crate) fn option_value(
             let text = text_from(alloc, value)?;
             Ok(Some(OptionValue::Name(name_of(alloc, text.as_str())?)))
         }
+        OptionName::File | OptionName::Url => {
+            if is_empty_text(value) {
+                return Ok(None);
+            }
+            Ok(Some(OptionValue::Text(text_from(alloc, value)?)))
+        }
     }
 }
 
 /// The ids of the words of a text, where there are some and none of them is empty.
-fn ids_of(alloc: Global, text: &[char]) -> Result<Option<Vec<String>>, AllocError>
+pub(crate) fn ids_of(alloc: Global, text: &[char]) -> Result<Option<Vec<String>>, AllocError>
     ensures { IfOk result (λ ids. option_map (λ v. spec.chars_of_texts v.items) ids ≡ spec.ids_of text.now) }
 {
     let mut ids = Vec::new(alloc);

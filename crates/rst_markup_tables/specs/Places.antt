@@ -26,7 +26,7 @@ mark_of Second = 0
 abbrev pub consists_of : ℕ → ℕ → List Place → Bool
 consists_of one other row = list_all (λ p. mark_of p == one || mark_of p == other) row
 
--- a line of a table: its number in the document, its places, and the parts of the markup that hold in it
+-- a line of a table: its number in the document, its places, and the parts of the wider profile that hold in it
 pub record Row : Type 0 where
   pub number : ℕ
   pub places : List Place
@@ -48,7 +48,7 @@ rows_of B = map row_of_line B
 abbrev pub no_row : Row
 no_row = record { number = 0; places = []; parts = no_parts }
 
--- the numbers of the rows follow one another, and the same parts of the markup hold in all rows
+-- the numbers of the rows follow one another, and the same parts of the wider profile hold in all rows
 abbrev pub AreNumbered : Grid → Type 0
 AreNumbered G = (i : ℕ) → i < length G → ((get_or G i no_row).number ≡ (get_or G 0 no_row).number + i) × ((get_or G i no_row).parts ≡ (get_or G 0 no_row).parts)
 

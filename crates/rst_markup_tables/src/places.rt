@@ -30,7 +30,7 @@ impl Place {
     }
 }
 
-/// A line of a table: its number, its places, and the parts of the markup that hold in it.
+/// A line of a table: its number, its places, and the parts of the wider profile that hold in it.
 #[derive(Drop)]
 pub(crate) struct TableLine {
     pub(crate) number: usize,
@@ -60,7 +60,7 @@ impl TableLine {
         self.number
     }
 
-    /// The parts of the markup that hold in the line.
+    /// The parts of the wider profile that hold in the line.
     pub(crate) fn parts(&self) -> Parts
         ensures { result ≡ self.now.parts }
     {

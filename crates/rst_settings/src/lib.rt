@@ -40,18 +40,42 @@ impl Threshold {
     }
 }
 
-/// Parts of the markup that hold only where they are asked for.
+/// The parts of the wider profile: what is read otherwise than in the base, each where it is asked for.
 #[derive(Clone, Copy, Debug, PartialEq, Eq)]
 pub struct Parts {
     /// The name of a field holds no unescaped colon directly before a backquote: there, a role ends.
     pub marks: bool,
+    /// An e-mail address in a text is a reference.
+    pub mail: bool,
+    /// The names of roles are known in any case of their letters, and there are more roles.
+    pub roles: bool,
+    /// There are more directives.
+    pub directives: bool,
+    /// What follows the first line of a directive after a blank line is its content.
+    pub unmarked: bool,
+    /// Keywords of revision control in bibliographic fields are replaced.
+    pub keywords: bool,
 }
 
 impl Parts {
     /// No part is asked for.
-    pub const NONE: Parts = Parts { marks: false };
+    pub const NONE: Parts = Parts {
+        marks: false,
+        mail: false,
+        roles: false,
+        directives: false,
+        unmarked: false,
+        keywords: false,
+    };
     /// Every part is asked for.
-    pub const ALL: Parts = Parts { marks: true };
+    pub const ALL: Parts = Parts {
+        marks: true,
+        mail: true,
+        roles: true,
+        directives: true,
+        unmarked: true,
+        keywords: true,
+    };
 }
 
 /// The settings of a run (Configuration, 'General').
@@ -71,7 +95,7 @@ pub struct Settings {
     pub tab: u8,
     /// The most characters that a line may have.
     pub limit: usize,
-    /// The parts of the markup that are asked for.
+    /// The parts of the wider profile that are asked for.
     pub parts: Parts,
     pub ghost tab_from: { 1 ≤ tab },
     pub ghost tab_to: { tab ≤ 99 },
@@ -80,7 +104,7 @@ pub struct Settings {
 impl Settings {
     /// The settings of a run with no options: WARNINGs and above are reported, a SEVERE message halts, the status gives
     /// no level, titles and bibliographic fields are looked for, tabs are 8 columns wide, lines have at most 10,000
-    /// characters, and no part of the markup is asked for.
+    /// characters, and no part of the wider profile is asked for.
     pub fn usual() -> Settings
         ensures levels { (result.report ≡ Warning) × (result.halt ≡ Severe) × (result.exit ≡ Never) }
         ensures transforms { (result.title ≡ true) × (result.info ≡ true) }

@@ -3,7 +3,7 @@ use Rattle.std.specs.Prelude.{ℕ, suc, ◌-◌, List, [], ◌∷◌, take, drop
 use Rattle.rst_settings.specs.Parts.{no_parts}
 use Rattle.rst_settings.specs.declared.Parts.{Parts}
 
--- a line: its number in the document, from 1, its characters, and the parts of the markup that hold in it
+-- a line: its number in the document, from 1, its characters, and the parts of the wider profile that hold in it
 pub record Line : Type 0 where
   pub number : ℕ
   pub text : List ℕ

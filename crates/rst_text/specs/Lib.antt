@@ -1,7 +1,6 @@
 pub mod Text
 pub mod Block
 pub mod Lines
-pub mod Marks
 pub mod Kept
 pub mod Source
 pub mod ViewBlock

@@ -17,7 +17,7 @@ use std::alloc::{AllocError, Global};
 use std::marker::Model;
 
 /// Lines with their numbers, which follow one another: no character of a line ends one, and none is white at a line's
-/// end. Contracts see them as a block: each line has its number, its characters and the parts of the markup that hold
+/// end. Contracts see them as a block: each line has its number, its characters and the parts of the wider profile that hold
 /// in it, which are the same for all.
 #[derive(Debug, Drop)]
 pub struct Lines {
@@ -26,7 +26,7 @@ pub struct Lines {
     pub(crate) count: usize,
     // The places of the lines whose texts are kept, if not all are: the others are empty.
     places: Option<Vec<usize>>,
-    // The parts of the markup that hold in each line.
+    // The parts of the wider profile that hold in each line.
     parts: Parts,
 }
 
@@ -45,7 +45,7 @@ impl Model for Lines {
 impl Lines {
     /// The lines of a text: cut at its line ends and numbered from 1, in each the tabs expanded to the next multiple
     /// of `tab` columns, form feeds and vertical tabs made spaces and the white characters at its end dropped (Markup
-    /// Specification, 'Whitespace'; Configuration, `tab_width`). These parts of the markup hold in each.
+    /// Specification, 'Whitespace'; Configuration, `tab_width`). These parts of the wider profile hold in each.
     ///
     /// The only refusal is [`AllocError`].
     pub fn of(alloc: Global, text: &str, tab: u8, parts: Parts) -> Result<Lines, AllocError>
@@ -62,7 +62,7 @@ impl Lines {
 
     /// The lines of a text, if none of them has more than `limit` characters (Configuration, `line_length_limit`). A
     /// line is measured before its tabs are expanded: a tab that is counted takes no memory, an expanded one does.
-    /// These parts of the markup hold in each.
+    /// These parts of the wider profile hold in each.
     ///
     /// The refusals are [`LineFault::TooLong`], of the first line that is too long, and [`LineFault::NoMemory`].
     pub fn within(
@@ -106,7 +106,7 @@ impl Lines {
         })
     }
 
-    /// `count` lines, numbered from `first` on. These parts of the markup hold in each. They are empty but for these
+    /// `count` lines, numbered from `first` on. These parts of the wider profile hold in each. They are empty but for these
     /// texts, which are given with their places, counted from 0. The places rise and are below `count`; no character of
     /// a text ends a line, and its last isn't white. A line that is given no text takes no memory.
     ///
@@ -167,7 +167,7 @@ impl Lines {
         self.first + i
     }
 
-    /// The parts of the markup that hold in each line.
+    /// The parts of the wider profile that hold in each line.
     pub(crate) fn parts(&self) -> Parts
         ensures { (k : ℕ) → k < length self.now → result ≡ first_parts (drop k self.now) }
     {

@@ -6,7 +6,6 @@ ghost use Rattle.std.specs.Prelude.{◌≡◌, ◌++◌, true, false, Some, None
 ghost use Rattle.rst_settings.specs.Parts.{no_parts};
 ghost use Rattle.rst_text.specs.Characters.{columns, is_alphanumeric, is_letter, is_white};
 ghost use Rattle.rst_text.specs.Lines.{expanded, lines_of, first_longer};
-ghost use Rattle.rst_text.specs.Marks.{holds_role, parts_in};
 ghost use Rattle.rst_text.specs.Escapes.{is_escaped, unescaped};
 ghost use Rattle.rst_text.specs.Names.{id_of, name_of};
 ghost use Rattle.rst_text.specs.SimpleNames.{is_simple_name};
@@ -28,14 +27,6 @@ pub fn lines()
         ≡ codes "a" ∷ codes "=" ∷ codes "b\u{1f}" ∷ [] }
     ensures longer { first_longer 2 (block ("ab" ∷ "abc" ∷ "abcd" ∷ [])) ≡ Some 2 }
     ensures none_longer { first_longer 4 (block ("ab" ∷ "abcd" ∷ [])) ≡ None }
-{}
-
-/// Marks of parts of the markup that hold only where they are asked for (Markup Specification, 'Interpreted Text').
-pub fn marks()
-    ensures role { holds_role (codes "a :b:`c`") ≡ true }
-    ensures escaped_colon { holds_role (codes "a\\:`b`") ≡ true }
-    ensures apart { holds_role (codes ":a: `b` `c`: :") ≡ false }
-    ensures unasked { parts_in no_parts (codes ":a:`b`") ≡ no_parts }
 {}
 
 /// A byte order mark at the beginning of a text (Configuration, 'input_encoding').

@@ -135,7 +135,7 @@ impl<'a> View<'a> {
         self.lines.number(self.from + i)
     }
 
-    /// The parts of the markup that hold in the line at place `i`, counted from 0.
+    /// The parts of the wider profile that hold in the line at place `i`, counted from 0.
     pub fn parts(&self, i: usize) -> Parts
         requires { i < length (block_of self.now) }
         ensures value { result ≡ first_parts (drop i (block_of self.now)) }

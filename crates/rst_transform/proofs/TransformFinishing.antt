@@ -63,14 +63,14 @@ module _ (P : ℕ → Bool) (T : List ℕ → Type 0) (s : Suited P T) (signs : 
       let expanded : Document × Known = with_expansions (document_in r.root) (known_at_first messages r) in
       let retargeted : Document × Known = with_targets expanded.0 expanded.1 in
       let titled : Document × Known = asked settings.title with_title retargeted.0 retargeted.1 in
-      let informed : Document × Known = asked profile.docinfo with_docinfo titled.0 titled.1 in
+      let informed : Document × Known = asked profile.docinfo (with_docinfo settings.parts) titled.0 titled.1 in
       let linked : Document × Known = with_links informed.0 informed.1 in
       let done : Document × Known = with_transitions linked.0 linked.1 in
       let shown : Document × Known = with_last_section settings.report done.0 done.1 in
       let at_first = started_held 5 m r.root (known_at_first messages r) (omega arith) (named.1 (flat_in document flat)) (omega arith) (named.2 has) tt in
       let at_targets = targets_held P T s m expanded.0 expanded.1 at_first.0 in
       let at_title = asked_held settings.title with_title m m retargeted (omega arith) (at_targets, at_first.1) (λ h. (title_held P T s m retargeted.0 retargeted.1 h.0, h.1)) in
-      let at_docinfo = asked_held profile.docinfo with_docinfo m (m + 3) titled (omega arith) at_title (λ h. docinfo_held P T s m titled.0 titled.1 h.0 h.1) in
+      let at_docinfo = asked_held profile.docinfo (with_docinfo settings.parts) m (m + 3) titled (omega arith) at_title (λ h. docinfo_held P T s settings.parts m titled.0 titled.1 h.0 h.1) in
       let at_links = links_held P T s signs (m + 3) informed.0 informed.1 at_docinfo.0 at_docinfo.1 in
       let at_transitions = transitions_held P T s (m + 3 + 1) linked.0 linked.1 at_links.0 at_links.1 in
       let at_end = last_section_held P T s (m + 3 + 1 + 3) settings.report done.0 done.1 at_transitions.0 at_transitions.1 in

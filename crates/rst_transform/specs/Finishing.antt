@@ -39,7 +39,7 @@ titled_first settings document known =
 abbrev pub transformed : Profile → Settings → Document → Known → Document × Known
 transformed profile settings document known =
     let titled = titled_first settings document known in
-    let informed = asked profile.docinfo with_docinfo titled.0 titled.1 in
+    let informed = asked profile.docinfo (with_docinfo settings.parts) titled.0 titled.1 in
     let linked = with_links informed.0 informed.1 in
     with_transitions linked.0 linked.1
 

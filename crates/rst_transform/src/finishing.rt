@@ -110,7 +110,7 @@ fn transformed(
         retargeted
     };
     let informed = if settings.info {
-        docinfo(titled, context)?
+        docinfo(titled, settings.parts, context)?
     } else {
         titled
     };

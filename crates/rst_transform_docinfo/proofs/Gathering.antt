@@ -1,10 +1,11 @@
 -- The fields of a bibliography, taken in one after another.
 use Rattle.std.proofs.Common.{◌≡◌, ◌∙◌, ℕ, suc, ◌<◌, ◌≤◌, List, [], ◌∷◌, ◌++◌, length, get_or, take, drop, Option, Some, None, refl, ap, sym, drop-cons, arith}
-use Rattle.std.specs.Prelude.{slice_index_or, slice_get, unwrap_or, true, option_map}
+use Rattle.std.specs.Prelude.{Bool, slice_index_or, slice_get, unwrap_or, true, option_map}
 use Rattle.std.specs.List.{prefix_len, remove}
 use Rattle.std.proofs.lemmas.Grind.{common_steps}
 use Rattle.std.proofs.lemmas.List.{append-nil}
 use Rattle.std.proofs.lemmas.Option.{unwrap_or-slice_get}
+use Rattle.rst_settings.specs.declared.Parts.{Parts}
 use Rattle.rst_tree.proofs.Changes.{nodes_of-forest_of}
 use Rattle.rst_tree.specs.declared.attrs.Attr.{Attr}
 use Rattle.rst_tree.specs.declared.node.Node.{Node}
@@ -85,8 +86,8 @@ list_there nodes place n there is at =
     rw (ap (λ i. is_list (slice_get nodes i)) (sym there) ∙ is) first
 
 -- what it became comes after the titles
-pub list_replaced : (first : ℕ) (reports : List Report) (nodes rest made all : List Node) (place count : ℕ) (n : Node) → leading_list nodes ≡ Some n → place ≡ list_place nodes → rest ≡ remove nodes place
-    → made ≡ (replaced first reports n).0 → count ≡ prefix_len is_title rest → all ≡ take count rest ++ (made ++ drop count rest) → all ≡ (nodes_with_docinfo first reports (leading_list nodes) nodes).0
-list_replaced first reports nodes rest made all place count n list there left is titles put =
-    put ∙ ap (λ k. take k rest ++ (made ++ drop k rest)) titles ∙ ap (λ m. after_titles m rest) is ∙ ap (after_titles (replaced first reports n).0) (left ∙ ap (remove nodes) there)
-    ∙ sym (ap (λ o. (nodes_with_docinfo first reports o nodes).0) list)
+pub list_replaced : (parts : Parts) (first : ℕ) (reports : List Report) (nodes rest made all : List Node) (place count : ℕ) (n : Node) → leading_list nodes ≡ Some n → place ≡ list_place nodes → rest ≡ remove nodes place
+    → made ≡ (replaced parts first reports n).0 → count ≡ prefix_len is_title rest → all ≡ take count rest ++ (made ++ drop count rest) → all ≡ (nodes_with_docinfo parts first reports (leading_list nodes) nodes).0
+list_replaced parts first reports nodes rest made all place count n list there left is titles put =
+    put ∙ ap (λ k. take k rest ++ (made ++ drop k rest)) titles ∙ ap (λ m. after_titles m rest) is ∙ ap (after_titles (replaced parts first reports n).0) (left ∙ ap (remove nodes) there)
+    ∙ sym (ap (λ o. (nodes_with_docinfo parts first reports o nodes).0) list)

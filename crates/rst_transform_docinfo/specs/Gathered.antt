@@ -1,23 +1,24 @@
 -- The fields of a document's bibliography, one after another (reStructuredText Markup Specification, 'Bibliographic Fields'; Document Tree,
 -- 'docinfo').
-use Rattle.std.specs.Prelude.{ℕ, Bool, true, false, List, [], ◌∷◌, ◌++◌, Option, Some, None, if◌then◌else◌}
+use Rattle.std.specs.Prelude.{ℕ, Bool, true, false, ◌&&◌, List, [], ◌∷◌, ◌++◌, Option, Some, None, if◌then◌else◌}
 use Rattle.std.specs.Option.{option_to_list}
+use Rattle.rst_settings.specs.declared.Parts.{Parts}
 use Rattle.rst_text.specs.Names.{name_in}
 use Rattle.rst_tree.specs.declared.node.Node.{Node}
 use Rattle.rst_tree.specs.declared.node.Node.TheVariants.{Element}
 use Rattle.rst_tree.specs.declared.tag.Tag.TheVariants.{Docinfo}
 use Rattle.rst_tree.specs.Nodes.{forest_of}
-use Rattle.rst_tree.specs.Tree.{text_in}
 use Rattle.rst_transform_docinfo.specs.declared.bibliography.Bibliography.{Bibliography}
 use Rattle.rst_transform_docinfo.specs.declared.bibliography.Row.{Row}
-use Rattle.rst_transform_docinfo.specs.declared.bibliography.Row.TheVariants.{Generic, Topic}
+use Rattle.rst_transform_docinfo.specs.declared.bibliography.Row.TheVariants.{Address, Generic, Simple, Topic}
 use Rattle.rst_transform_docinfo.specs.declared.bibliography.TopicKind.TheVariants.{Dedication, Abstract}
 use Rattle.rst_transform_docinfo.specs.declared.field.Field.{Field}
 use Rattle.rst_transform_work.specs.declared.report.Report.{Report}
 use Rattle.rst_transform_docinfo.specs.Bibliography.{fault_node, fault_report, made, bibliography_row, generic_field}
-use Rattle.rst_transform_docinfo.specs.Fields.{field_in}
+use Rattle.rst_transform_docinfo.specs.Fields.{field_in, field_read, name_text}
 
 -- What the fields became so far: the elements of the `docinfo`, and the topics, and whether there was a field for each; and the messages so far.
+-- `parts` are the parts of the wider profile that hold.
 pub record Gathered : Type 0 where
   pub info : List Node
   pub had_dedication : Bool
@@ -25,14 +26,16 @@ pub record Gathered : Type 0 where
   pub had_abstract : Bool
   pub abstract : Option Node
   pub reports : List Report
+  pub parts : Parts
 
 abbrev pub so_far : Bibliography → List Report → Gathered
 so_far b reports =
-    record { info = b.info.items; had_dedication = b.has_dedication; dedication = b.dedication; had_abstract = b.has_abstract; abstract = b.abstract_; reports = reports }
+    record { info = b.info.items; had_dedication = b.has_dedication; dedication = b.dedication; had_abstract = b.has_abstract; abstract = b.abstract_; reports = reports; parts = b.parts }
 
 -- no field yet
-abbrev pub none_yet : List Report → Gathered
-none_yet reports = record { info = []; had_dedication = false; dedication = None; had_abstract = false; abstract = None; reports = reports }
+abbrev pub none_yet : Parts → List Report → Gathered
+none_yet parts reports =
+    record { info = []; had_dedication = false; dedication = None; had_abstract = false; abstract = None; reports = reports; parts = parts }
 
 -- whether there was a field of this row before, where only the first may become a topic
 abbrev pub is_further : Row → Gathered → Bool
@@ -63,11 +66,22 @@ gathered_by_form first Generic name f None g = with_info (generic_field name f) 
 gathered_by_form first row name f None g =
     let next = fault_report first g.reports name f.line in record g { info = g.info ++ fault_node name next f ∷ []; reports = g.reports ++ next ∷ [] }
 
+-- in a field of this row values take the place of keywords: not in one of names or topics
+abbrev pub has_keywords : Row → Bool
+has_keywords (Simple t) = true
+has_keywords Address = true
+has_keywords Generic = true
+has_keywords _ = false
+
+-- one more field of a row, as it is read
+abbrev pub with_field_of : ℕ → Row → List ℕ → Field → Gathered → Gathered
+with_field_of first row name f g = gathered_by_form first row name f (if is_further row g then None else made row name f) (with_seen row g)
+
 -- one more field, whose name determines what it is for
 abbrev pub with_field : ℕ → Field → Gathered → Gathered
 with_field first f g =
-    let name = name_in (text_in f.name) in
-    let row = bibliography_row name in gathered_by_form first row name f (if is_further row g then None else made row name f) (with_seen row g)
+    let name = name_in (name_text g.parts.unmarked f.name) in
+    let row = bibliography_row name in with_field_of first row name (field_read (g.parts.keywords && has_keywords row) f) g
 
 -- one more node of the field list, which is a field or stays as it is
 abbrev pub if_field : ℕ → Node → Option Field → Gathered → Gathered

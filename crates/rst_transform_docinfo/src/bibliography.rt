@@ -1,15 +1,16 @@
 //! What the fields of a document's bibliography become.
-ghost use Rattle.std.specs.Prelude.{◌≡◌, ◌++◌, [], List, None, IfOk};
+ghost use Rattle.std.specs.Prelude.{◌≡◌, ◌++◌, ◌&&◌, [], List, None, IfOk};
 ghost use Rattle.std.specs.Option.{option_to_list};
 ghost use Rattle.rst_tree.specs.Nodes.{nodes_of};
 ghost use Rattle.rst_transform_work.specs.declared.report.Report.{Report};
 ghost use Rattle.rst_transform_docinfo.specs.Bibliography.{fault_node, fault_report, made, bibliography_row, generic_field, title_node, nodes_under_title, topic_title, with_nonempty_class};
-ghost use Rattle.rst_transform_docinfo.specs.Gathered.{docinfo_nodes, is_further, none_yet, so_far, with_field, with_field_node, with_seen};
+ghost use Rattle.rst_transform_docinfo.specs.Gathered.{docinfo_nodes, has_keywords, is_further, none_yet, so_far, with_field, with_field_node, with_field_of, with_seen};
 ghost use Rattle.rst_transform_docinfo.specs.Fields.{nodes_in, paragraph_in};
 ghost use Rattle.rst_transform_work.specs.Reports.{IsReported, KeepsRest};
 
 use crate::authors::authors_in;
 use crate::field::{Field, paragraph_in};
+use rst_settings::Parts;
 use rst_transform_work::{Context, copies, element, folded, identified};
 use rst_tree::{Attrs, Children, Key, Level, Node, Result, Tag, Text, Texts, Value};
 use std::alloc::Global;
@@ -17,7 +18,7 @@ use std::mem;
 
 /// A row of the table of bibliographic fields (Markup Specification, 'Bibliographic Fields').
 #[derive(Clone, Copy)]
-enum Row {
+pub enum Row {
     /// An element of this kind with the nodes of the one paragraph.
     Simple(Tag),
     /// The same, whose lines stay as they are.
@@ -30,9 +31,18 @@ enum Row {
     Generic,
 }
 
+impl Row {
+    /// Whether values take the place of keywords in such a field: not in one of names or topics.
+    fn has_keywords(self) -> bool
+        ensures { result ≡ has_keywords self }
+    {
+        matches!(self, Row::Simple(_) | Row::Address | Row::Generic)
+    }
+}
+
 /// A topic that a field becomes.
 #[derive(Clone, Copy)]
-enum TopicKind {
+pub enum TopicKind {
     Dedication,
     Abstract,
 }
@@ -168,12 +178,14 @@ pub struct Bibliography {
     /// Whether there was a field for the abstract.
     has_abstract: bool,
     abstract_: Option<Node>,
+    /// The parts of the wider profile that hold.
+    parts: Parts,
 }
 
 impl Bibliography {
     /// There was no field.
-    pub fn new(alloc: Global) -> Bibliography
-        ensures { (reports : List Report) → so_far result reports ≡ none_yet reports }
+    pub fn new(alloc: Global, parts: Parts) -> Bibliography
+        ensures { (reports : List Report) → so_far result reports ≡ none_yet parts reports }
     {
         Bibliography {
             info: Vec::new(alloc),
@@ -181,6 +193,7 @@ impl Bibliography {
             dedication: None,
             has_abstract: false,
             abstract_: None,
+            parts,
         }
     }
 
@@ -203,13 +216,35 @@ impl Bibliography {
         ensures gathered { IfOk result (λ _. so_far self.new context.new.reports.items ≡ with_field context.old.first_number field (so_far self.old context.old.reports.items)) }
         ensures rest { IfOk result (λ _. KeepsRest context.old context.new) }
     {
-        let text = field.name.text_of(context.alloc)?;
+        let text = field.name_text(context.alloc, self.parts.unmarked)?;
         let name = folded(context.alloc, text.as_str())?;
         let row = bibliography_row(name.as_str());
+        let field = field.read(context.alloc, self.has_keywords(row))?;
+        self.add_of_row(row, name.as_str(), field, context)
+    }
+
+    /// Whether values take the place of keywords in a field of a row.
+    fn has_keywords(&self, row: Row) -> bool
+        ensures { result ≡ (self.now.parts.keywords && has_keywords row) }
+    {
+        self.parts.keywords && row.has_keywords()
+    }
+
+    /// Takes in a field of a row, which has been read.
+    fn add_of_row(
+        &mut self,
+        row: Row,
+        name: &str,
+        field: Field,
+        context: &mut Context,
+    ) -> Result<()>
+        ensures gathered { IfOk result (λ _. so_far self.new context.new.reports.items ≡ with_field_of context.old.first_number row name.now field (so_far self.old context.old.reports.items)) }
+        ensures rest { IfOk result (λ _. KeepsRest context.old context.new) }
+    {
         let made = if self.see(row) {
             None
         } else {
-            made(context.alloc, row, name.as_str(), &field)?
+            made(context.alloc, row, name, &field)?
         };
         match made {
             Some(node) => {
@@ -221,11 +256,8 @@ impl Bibliography {
                 Ok(())
             }
             None => match row {
-                Row::Generic => Ok(
-                    self.info
-                        .push(generic_field(context.alloc, name.as_str(), field)?)?,
-                ),
-                _ => Ok(self.info.push(out_of_form(name.as_str(), field, context)?)?),
+                Row::Generic => Ok(self.info.push(generic_field(context.alloc, name, field)?)?),
+                _ => Ok(self.info.push(out_of_form(name, field, context)?)?),
             },
         }
     }

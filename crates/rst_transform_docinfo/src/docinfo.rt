@@ -8,6 +8,7 @@ ghost use Rattle.rst_transform_work.specs.Reports.{KeepsRest};
 ghost use Rattle.rst_transform_work.specs.Reading.{is_title};
 
 use crate::bibliography::Bibliography;
+use rst_settings::Parts;
 use rst_transform_work::{Context, Document, add_names, is_title, may_precede};
 use rst_tree::{Attrs, Children, Node, Result, Tag};
 use std::alloc::Global;
@@ -57,9 +58,9 @@ fn with_names(alloc: Global, mut nodes: Vec<Node>, attrs: &Attrs) -> Result<Vec<
 }
 
 /// What the fields of a field list become, the first of it with the list's ids and names, too.
-fn replaced(list: Node, context: &mut Context) -> Result<Vec<Node>>
-    ensures nodes { IfOk result (λ nodes. nodes.items ≡ (replaced context.old.first_number context.old.reports.items list).0) }
-    ensures reports { IfOk result (λ _. context.new.reports.items ≡ (replaced context.old.first_number context.old.reports.items list).1) }
+fn replaced(list: Node, parts: Parts, context: &mut Context) -> Result<Vec<Node>>
+    ensures nodes { IfOk result (λ nodes. nodes.items ≡ (replaced parts context.old.first_number context.old.reports.items list).0) }
+    ensures reports { IfOk result (λ _. context.new.reports.items ≡ (replaced parts context.old.first_number context.old.reports.items list).1) }
     ensures rest { IfOk result (λ _. KeepsRest context.old context.new) }
 {
     let Node::Element {
@@ -71,7 +72,7 @@ fn replaced(list: Node, context: &mut Context) -> Result<Vec<Node>>
     else {
         return Ok(Vec::new(context.alloc));
     };
-    let mut bibliography = Bibliography::new(context.alloc);
+    let mut bibliography = Bibliography::new(context.alloc, parts);
     for node in children.into_list() {
         bibliography.add_node(node, context)?;
     }
@@ -80,9 +81,9 @@ fn replaced(list: Node, context: &mut Context) -> Result<Vec<Node>>
 }
 
 /// The document's nodes with the bibliography in the place of a leading field list.
-fn with_bibliography(children: Children, context: &mut Context) -> Result<Children>
-    ensures nodes { let list = leading_list (nodes_of children) in IfOk result (λ all. all ≡ forest_of (nodes_with_docinfo context.old.first_number context.old.reports.items list (nodes_of children)).0) }
-    ensures reports { let list = leading_list (nodes_of children) in IfOk result (λ _. context.new.reports.items ≡ (nodes_with_docinfo context.old.first_number context.old.reports.items list (nodes_of children)).1) }
+fn with_bibliography(children: Children, parts: Parts, context: &mut Context) -> Result<Children>
+    ensures nodes { let list = leading_list (nodes_of children) in IfOk result (λ all. all ≡ forest_of (nodes_with_docinfo parts context.old.first_number context.old.reports.items list (nodes_of children)).0) }
+    ensures reports { let list = leading_list (nodes_of children) in IfOk result (λ _. context.new.reports.items ≡ (nodes_with_docinfo parts context.old.first_number context.old.reports.items list (nodes_of children)).1) }
     ensures rest { IfOk result (λ _. KeepsRest context.old context.new) }
 {
     let mut nodes = children.into_list();
@@ -90,7 +91,7 @@ fn with_bibliography(children: Children, context: &mut Context) -> Result<Childr
     if !is_list_at(&nodes, place) {
         return Ok(Children::of(nodes));
     }
-    let mut made = replaced(nodes.remove(place), context)?;
+    let mut made = replaced(nodes.remove(place), parts, context)?;
     let first = title_count(&nodes);
     let mut rest = nodes.split_off(first)?;
     nodes.append(&mut made)?;
@@ -103,7 +104,9 @@ fn with_bibliography(children: Children, context: &mut Context) -> Result<Childr
 /// (Markup Specification, 'Bibliographic Fields').
 ///
 /// A bibliographic field that isn't in its form stays a field, with a WARNING as the last node in its body. Any other field
-/// stays one, too. What a field becomes has the field's ids and names, and the first of all has the list's.
+/// stays one, too. What a field becomes has the field's ids and names, and the first of all has the list's. Under the part
+/// `keywords`, values take the place of keywords of revision control ('RCS Keywords'). Under the part `unmarked`, the first node in
+/// the name of a field says which field it is.
 ///
 /// Before:
 ///
@@ -128,9 +131,9 @@ fn with_bibliography(children: Children, context: &mut Context) -> Result<Childr
 /// ```
 ///
 /// The only refusal is [`AllocError`].
-pub fn docinfo(mut document: Document, context: &mut Context) -> Result<Document>
-    ensures { IfOk result (Makes (with_docinfo document) context.old context.new) }
+pub fn docinfo(mut document: Document, parts: Parts, context: &mut Context) -> Result<Document>
+    ensures { IfOk result (Makes (with_docinfo parts document) context.old context.new) }
 {
-    document.children = with_bibliography(document.children, context)?;
+    document.children = with_bibliography(document.children, parts, context)?;
     Ok(document)
 }

@@ -5,4 +5,5 @@ mod authors;
 mod bibliography;
 pub mod docinfo;
 mod field;
+mod keywords;
 pub mod rows;

@@ -8,4 +8,5 @@ pub mod TransformNames
 pub mod TransformStructure
 pub mod TransformDocinfo
 pub mod TransformLinks
+pub mod KeywordTexts
 pub mod LinkTexts

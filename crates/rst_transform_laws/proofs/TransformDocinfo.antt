@@ -1,10 +1,11 @@
 -- The bibliography adds at most three levels, those of a message in the body of a field, and its texts are parts of texts, names or fixed.
 use Rattle.std.proofs.Common.{ℕ, ◌+◌, ◌-◌, ◌≤◌, Bool, true, false, List, [], ◌∷◌, ◌++◌, Option, Some, None, suc, arith, refl}
-use Rattle.std.specs.Prelude.{◌==◌, if◌then◌else◌, codes, option_map, slice_get}
+use Rattle.std.specs.Prelude.{◌==◌, ◌&&◌, if◌then◌else◌, codes, option_map, slice_get}
 use Rattle.std.specs.List.{AllByRecursion, flat_map, list_any, remove, slice_split}
 use Rattle.std.specs.Option.{IfSome, option_to_list}
-use Rattle.std.specs.Str.{bytes_eq, chars, trim}
+use Rattle.std.specs.Str.{chars, trim}
 use Rattle.std.proofs.lemmas.Bool.{cond_both}
+use Rattle.rst_settings.specs.declared.Parts.{Parts}
 use Rattle.rst_text.specs.Names.{identifier, name_in}
 use Rattle.rst_tree.specs.declared.attrs.Attr.{Attr}
 use Rattle.rst_tree.specs.declared.attrs.Value.TheVariants.{Text as Says, List as Listed}
@@ -21,16 +22,21 @@ use Rattle.rst_transform_work.specs.declared.document.Document.{Document}
 use Rattle.rst_transform_work.specs.declared.report.Report.{Report}
 use Rattle.rst_transform_work.specs.Known.{Known}
 use Rattle.rst_transform_work.specs.Reports.{report_node}
-use Rattle.rst_transform_docinfo.specs.Authors.{all_paragraphs, and_author, author_named, authors_in, by_form, named_by, parted, some_of}
-use Rattle.rst_transform_docinfo.specs.Bibliography.{bibliography_row, fault_node, fault_report, generic_field, made, nodes_under_title, title_node, with_nonempty_class}
+use Rattle.rst_transform_docinfo.specs.Authors.{all_paragraphs, and_author, author_named, by_form, named_by, parted, some_of}
+use Rattle.rst_transform_docinfo.specs.declared.bibliography.Row.{Row}
+use Rattle.rst_transform_docinfo.specs.declared.bibliography.Row.TheVariants.{Simple, Address, Authors as AreAuthors, Topic, Generic}
+use Rattle.rst_transform_docinfo.specs.declared.bibliography.TopicKind.TheVariants.{Dedication, Abstract}
+use Rattle.rst_transform_docinfo.specs.declared.field.Field.{Field}
+use Rattle.rst_transform_docinfo.specs.Bibliography.{bibliographic_element, bibliography_row, fault_node, fault_report, generic_field, made, nodes_under_title, title_node, with_nonempty_class}
 use Rattle.rst_transform_docinfo.specs.Docinfo.{first_named, leading_list, list_place, nodes_with_docinfo, replaced, with_docinfo}
-use Rattle.rst_transform_docinfo.specs.Fields.{docinfo_field, in_paragraph, lone, lone_in, nodes_in, paragraph_in}
-use Rattle.rst_transform_docinfo.specs.Gathered.{docinfo_nodes, gathered, gathered_by_form, if_field, info_nodes, is_further, none_yet, with_field, with_field_node, with_info, with_seen, Gathered}
+use Rattle.rst_transform_docinfo.specs.Fields.{body_read, body_without_keywords, docinfo_field, field_read, first_text, lone_without_keywords, paragraph_without_keywords, in_paragraph, lone, lone_in, name_text, nodes_in, paragraph_in}
+use Rattle.rst_transform_docinfo.specs.Gathered.{docinfo_nodes, gathered, gathered_by_form, has_keywords, if_field, info_nodes, is_further, none_yet, with_field, with_field_node, with_info, with_seen, Gathered}
 use Rattle.rst_tree_laws.specs.Texts.{AttrsHave}
 use Rattle.rst_tree_laws.proofs.Have.{text_in_has, with_attr_has}
 use Rattle.rst_transform_laws.proofs.Held.{AllHeld, DocumentHeld, ForestHeld, Held, KnownHas, ReportsHave, held_forest, held_more, held_nodes, report_held, with_names_has}
 use Rattle.rst_tree_laws.proofs.Lists.{all_append, all_drop, all_take}
 use Rattle.rst_tree_laws.proofs.Properties.{Suited, fixed_has, name_in_has, trimmed_has}
+use Rattle.rst_transform_laws.proofs.KeywordTexts.{text_kept}
 use Rattle.rst_transform_laws.proofs.TransformLow.{all_at}
 
 if_made : {A B : Type 0} (Q : A → Type 0) (R : B → Type 0) (f : A → B) → ((x : A) → Q x → R (f x)) → (o : Option A) → IfSome o Q → IfSome (option_map f o) R
@@ -84,7 +90,34 @@ module _ (P : ℕ → Bool) (T : List ℕ → Type 0) (s : Suited P T) where
   nodes_in_held m (Element t a c l) h = (omega (arith, h.0), h.1.1)
   nodes_in_held m (Text t) h = (omega arith, tt)
 
+  -- ---- keywords
+
+  value_held : (m : ℕ) (n : Node) → Held T m n → Held T m (paragraph_without_keywords n)
+  value_held m (Element Paragraph a (words text bare) l) h = (omega (arith, h.0), (h.1.0, (text_kept P T s text h.1.1.0, tt)))
+  value_held m n h = h
+
+  lone_value_held : (m : ℕ) (ns : List Node) → AllHeld T m ns → AllHeld T m (lone_without_keywords ns)
+  lone_value_held m (n ∷ []) h = (value_held m n h.0, tt)
+  lone_value_held m ns h = h
+
+  body_held : (m : ℕ) (n : Node) → Held T m n → Held T m (body_without_keywords n)
+  body_held m (Element t a c l) h =
+      let f = held_forest T (height c) _ (lone_value_held (height c) (nodes_of c) (held_nodes T (height c) c (omega arith, h.1.1))) in (omega (arith, f.0, h.0), (h.1.0, f.1))
+  body_held m (Text t) h = h
+
+  read_held : (m : ℕ) (keywords : Bool) (n : Node) → Held T m n → Held T m (body_read keywords n)
+  read_held m true n h = body_held m n h
+  read_held m false n h = h
+
   -- ---- what fields become
+
+  first_has : (m : ℕ) (ns : List Node) → AllHeld T m ns → T (first_text ns)
+  first_has m [] h = s.encoded [] tt
+  first_has m (n ∷ ns) h = text_in_has T P s n h.0.1
+
+  name_text_has : (m : ℕ) (first : Bool) (n : Node) → Held T m n → T (name_text first n)
+  name_text_has m true n h = first_has m _ (held_nodes T m (nodes_in n) (nodes_in_held m n h))
+  name_text_has m false n h = text_in_has T P s n h.1
 
   class_has : (name : List ℕ) (attrs : List Attr) → AttrsHave T attrs → AttrsHave T (with_nonempty_class name attrs)
   class_has [] attrs h = h
@@ -112,42 +145,56 @@ module _ (P : ℕ → Bool) (T : List ℕ → Type 0) (s : Suited P T) where
     by_held by None false some none h = none
     by_held by (Some n) false some none h = some n h
 
-    -- the same by the row of its name
-    field_held : (g : Gathered) (f : _) → let held : Type 0 = GatheredHeld (with_field first f g) in Held T (k - 1) f.name → Held T (k - 1) f.body → AttrsHave T f.attrs → GatheredHeld g → held
-    unfolding bibliography_row
+    module _ (g : Gathered) (f : Field) (nm : List ℕ) (named : T nm) (name : Held T (k - 1) f.name) (body : Held T (k - 1) f.body) (attrs : AttrsHave T f.attrs) (w : GatheredHeld g) where
+      made_held : (n : Node) → Held T (k + 3) n → GatheredHeld (with_info n g)
+      made_held n h = info_held n g h w
+
+      kept : (n : Node) → Held T (k + 2) n → GatheredHeld (with_info (generic_field nm (record f { body = n })) g)
+      kept n h =
+          let ns = held_forest T (k + 2) (f.name ∷ n ∷ []) ((omega (arith, name.0), name.1), (h, tt)) in
+          made_held (generic_field nm (record f { body = n })) (omega (arith, ns.0), (class_has (identifier nm) f.attrs attrs, ns.1))
+
+      abbrev report : Report
+      report = fault_report first g.reports nm f.line
+
+      fault : GatheredHeld (record (with_info (fault_node nm report f) g) { reports = g.reports ++ report ∷ [] })
+      fault =
+          let told : T report.text = s.append (codes "Bibliographic field \"") _ (fixed_has P T s _ refl) (s.append nm _ named (fixed_has P T s (codes "\" is not in its form.") refl)) in
+          let still = kept (with_child (report_node report) f.body) (child_held k (report_node report) f.body (report_held T 3 report (omega arith) told) body) in
+          (still.0, still.1, still.2, all_append _ g.reports _ w.3 (told, tt))
+
+      made_of : (t : Tag) (a : List Attr) → AttrsHave T a → (o : Option Forest) → IfSome o (ForestHeld T (k + 2)) → IfSome (bibliographic_element t a f.line o) (Held T (k + 3))
+      made_of t a own o = if_made (ForestHeld T (k + 2)) (Held T (k + 3)) (λ c. Element t a c f.line) (λ c h. (omega (arith, h.0), (own, h.1))) o
+
+      simple : (t : Tag) (a : List Attr) → AttrsHave T a → IfSome (bibliographic_element t a f.line (paragraph_in f.body)) (Held T (k + 3))
+      simple t a own = made_of t a own (paragraph_in f.body) (paragraph_held (k + 2) (lone_in f.body) (lone_held (k + 2) f.body (omega (arith, body.0), body.1)))
+
+      topic : (text : List ℕ) → T text → IfSome (bibliographic_element IsTopic (with_nonempty_class nm f.attrs) f.line (nodes_under_title (title_node text f.line) (nodes_of (nodes_in f.body)))) (Held T (k + 3))
+      topic text h =
+          made_of IsTopic _ (class_has nm f.attrs attrs) _ (topic_held k text f.line _ h (held_nodes T (k + 2) (nodes_in f.body) (nodes_in_held (k + 2) f.body (omega (arith, body.0), body.1))))
+
+      -- what becomes of a field by the row of its name
+      abbrev RowHeld : Row → Type 0
+      RowHeld row =
+          ((n : Node) → Held T (k + 3) n → GatheredHeld (gathered_by_form first row nm f (Some n) (with_seen row g))) × GatheredHeld (gathered_by_form first row nm f None (with_seen row g))
+          × IfSome (made row nm f) (Held T (k + 3))
+
+      row_held : (row : Row) → RowHeld row
+      row_held (Simple t) = (made_held, fault, simple t f.attrs attrs)
+      row_held Address = (made_held, fault, simple _ _ (with_attr_has T XmlSpace (Says (codes "preserve")) f.attrs tt attrs))
+      row_held AreAuthors =
+          (made_held, fault, made_of IsAuthors f.attrs attrs _ (if_made (AllHeld T (k + 2)) (ForestHeld T (k + 2)) forest_of (held_forest T (k + 2)) _ (authors_held k f.line (lone_in f.body) (lone_held k f.body (omega (arith, body.0), body.1)))))
+      row_held (Topic Dedication) = ((λ n h. (w.0, (h, tt), w.2, w.3)), fault, topic _ (fixed_has P T s (codes "Dedication") refl))
+      row_held (Topic Abstract) = ((λ n h. (w.0, w.1, (h, tt), w.3)), fault, topic _ (fixed_has P T s (codes "Abstract") refl))
+      row_held Generic = (made_held, kept f.body (omega (arith, body.0), body.1), tt)
+
+    field_held : (g : Gathered) (f : Field) → Held T (k - 1) f.name → Held T (k - 1) f.body → AttrsHave T f.attrs → GatheredHeld g → GatheredHeld (with_field first f g)
     field_held g f name body attrs w =
-        let nm : List ℕ = name_in (text_in f.name) in
-        let by = λ (row : _) (o : Option Node). gathered_by_form first row nm f o (with_seen row g) in
-        let Q = λ (row : _). ((n : Node) → Held T (k + 3) n → GatheredHeld (by row (Some n))) × GatheredHeld (by row None) × IfSome (made row nm f) (Held T (k + 3)) in
-        let made_held = λ (n : Node) (h : Held T (k + 3) n). info_held n g h w in
-        let inside : Held T (k + 2) f.body = (omega (arith, body.0), body.1) in
-        let kept = λ (n : Node) (h : Held T (k + 2) n).
-        let ns = held_forest T (k + 2) (f.name ∷ n ∷ []) ((omega (arith, name.0), name.1), (h, tt)) in
-        made_held (generic_field nm (record f { body = n })) (omega (arith, ns.0), (class_has (identifier nm) f.attrs attrs, ns.1)) in
-        let report : Report = fault_report first g.reports nm f.line in
-        let told : T report.text = s.append (codes "Bibliographic field \"") _ (fixed_has P T s _ refl) (s.append nm _ (name_in_has P T s _ (text_in_has T P s f.name name.1)) (fixed_has P T s (codes "\" is not in its form.") refl)) in
-        let still = kept (with_child (report_node report) f.body) (child_held k (report_node report) f.body (report_held T 3 report (omega arith) told) body) in
-        let fault : GatheredHeld (record (with_info (fault_node nm report f) g) { reports = g.reports ++ report ∷ [] }) = (still.0, still.1, still.2, all_append _ g.reports _ w.3 (told, tt)) in
-        let element = λ (t : Tag) (a : List Attr) (own : AttrsHave T a) (o : Option Forest). if_made (ForestHeld T (k + 2)) (Held T (k + 3)) (λ c. Element t a c f.line) (λ c h. (omega (arith, h.0), (own, h.1))) o in
-        let simple = λ (t : Tag) (a : List Attr) (own : AttrsHave T a). element t a own (paragraph_in f.body) (paragraph_held (k + 2) (lone_in f.body) (lone_held (k + 2) f.body inside)) in
-        let nodes : AllHeld T (k + 2) (nodes_of (nodes_in f.body)) = held_nodes T (k + 2) (nodes_in f.body) (nodes_in_held (k + 2) f.body inside) in
-        let topic = λ (text : List ℕ) (h : T text). element IsTopic _ (class_has nm f.attrs attrs) _ (topic_held k text f.line _ h nodes) in
-        let authors : IfSome (authors_in f.line f.body) (AllHeld T (k + 2)) = authors_held k f.line (lone_in f.body) (lone_held k f.body (omega (arith, body.0), body.1)) in
-        let row : Q (bibliography_row nm) =
-        cond_both (bytes_eq nm (codes "author")) _ _ Q (λ _. (made_held, fault, simple _ _ attrs))
-        (λ _. cond_both (bytes_eq nm (codes "organization")) _ _ Q (λ _. (made_held, fault, simple _ _ attrs))
-        (λ _. cond_both (bytes_eq nm (codes "contact")) _ _ Q (λ _. (made_held, fault, simple _ _ attrs))
-        (λ _. cond_both (bytes_eq nm (codes "version")) _ _ Q (λ _. (made_held, fault, simple _ _ attrs))
-        (λ _. cond_both (bytes_eq nm (codes "revision")) _ _ Q (λ _. (made_held, fault, simple _ _ attrs))
-        (λ _. cond_both (bytes_eq nm (codes "status")) _ _ Q (λ _. (made_held, fault, simple _ _ attrs))
-        (λ _. cond_both (bytes_eq nm (codes "date")) _ _ Q (λ _. (made_held, fault, simple _ _ attrs))
-        (λ _. cond_both (bytes_eq nm (codes "copyright")) _ _ Q (λ _. (made_held, fault, simple _ _ attrs))
-        (λ _. cond_both (bytes_eq nm (codes "address")) _ _ Q (λ _. (made_held, fault, simple _ _ (with_attr_has T XmlSpace (Says (codes "preserve")) f.attrs tt attrs)))
-        (λ _. cond_both (bytes_eq nm (codes "authors")) _ _ Q (λ _. (made_held, fault, element IsAuthors f.attrs attrs _ (if_made (AllHeld T (k + 2)) (ForestHeld T (k + 2)) forest_of (held_forest T (k + 2)) _ authors)))
-        (λ _. cond_both (bytes_eq nm (codes "dedication")) _ _ Q (λ _. ((λ n h. (w.0, (h, tt), w.2, w.3)), fault, topic _ (fixed_has P T s (codes "Dedication") refl)))
-        (λ _. cond_both (bytes_eq nm (codes "abstract")) _ _ Q (λ _. ((λ n h. (w.0, w.1, (h, tt), w.3)), fault, topic _ (fixed_has P T s (codes "Abstract") refl)))
-        (λ _. (made_held, kept f.body inside, tt))))))))))))) in
-        by_held (by (bibliography_row nm)) _ (is_further (bibliography_row nm) g) row.0 row.1 row.2
+        let nm : List ℕ = name_in (name_text g.parts.unmarked f.name) in
+        let row : Row = bibliography_row nm in
+        let read : Field = field_read (g.parts.keywords && has_keywords row) f in
+        let held = row_held g read nm (name_in_has P T s _ (name_text_has (k - 1) g.parts.unmarked f.name name)) name (read_held (k - 1) (g.parts.keywords && has_keywords row) f.body body) attrs w row in
+        by_held (λ o. gathered_by_form first row nm read o (with_seen row g)) (made row nm read) (is_further row g) held.0 held.1 held.2
 
     parts_held : (n : Node) (a : List Attr) (ns : List Node) (l : ℕ) (g : Gathered) → Held T k n → AttrsHave T a → AllHeld T (k - 1) ns → GatheredHeld g → GatheredHeld (if_field first n (docinfo_field a ns l) g)
     parts_held n a (name ∷ body ∷ []) l g h attrs low w = field_held g _ low.0 low.1.0 attrs w
@@ -172,27 +219,28 @@ module _ (P : ℕ → Bool) (T : List ℕ → Type 0) (s : Suited P T) where
   first_held m from (Element t a c l ∷ ns) h = ((h.0.0, (with_names_has T from a h.0.1.0, h.0.1.1)), h.1)
   first_held m from (Text t ∷ ns) h = h
 
-  list_held : (m first : ℕ) (reports : List Report) (n : Node) → Held T m n → ReportsHave T reports → let all = replaced first reports n in AllHeld T (m + 3) all.0 × ReportsHave T all.1
-  list_held m first reports (Text t) h r = (tt, r)
-  list_held m first reports (Element t a c l) h r =
-      let g : Gathered = gathered first (none_yet reports) (nodes_of c) in
-      let w = gathered_held (height c) first (nodes_of c) (none_yet reports) (held_nodes T (height c) c (omega arith, h.1.1)) (tt, tt, tt, r) in
-      let topic = λ (o : Option Node). held_more T (height c + 3) (m + 3) (option_to_list o) (omega (arith, h.0)) in
-      let all = all_append _ _ _ (all_append _ _ _ (infos_held (height c + 3) (m + 3) l g.info (omega (arith, h.0)) w.0) (topic g.dedication w.1)) (topic g.abstract w.2) in
-      (first_held (m + 3) a (docinfo_nodes l g) all, w.3)
+  module _ (parts : Parts) where
+    list_held : (m first : ℕ) (reports : List Report) (n : Node) → Held T m n → ReportsHave T reports → let all = replaced parts first reports n in AllHeld T (m + 3) all.0 × ReportsHave T all.1
+    list_held m first reports (Text t) h r = (tt, r)
+    list_held m first reports (Element t a c l) h r =
+        let g : Gathered = gathered first (none_yet parts reports) (nodes_of c) in
+        let w = gathered_held (height c) first (nodes_of c) (none_yet parts reports) (held_nodes T (height c) c (omega arith, h.1.1)) (tt, tt, tt, r) in
+        let topic = λ (o : Option Node). held_more T (height c + 3) (m + 3) (option_to_list o) (omega (arith, h.0)) in
+        let all = all_append _ _ _ (all_append _ _ _ (infos_held (height c + 3) (m + 3) l g.info (omega (arith, h.0)) w.0) (topic g.dedication w.1)) (topic g.abstract w.2) in
+        (first_held (m + 3) a (docinfo_nodes l g) all, w.3)
 
-  all_held : (m first : ℕ) (reports : List Report) (o : Option Node) (ns : List Node) → AllHeld T m (option_to_list o) → AllHeld T m ns → ReportsHave T reports
-      → let all = nodes_with_docinfo first reports o ns in AllHeld T (m + 3) all.0 × ReportsHave T all.1
-  all_held m first reports None ns h low r = (held_more T m (m + 3) ns (omega arith) low, r)
-  all_held m first reports (Some n) ns h low r =
-      let rest : AllHeld T (m + 3) (remove ns (list_place ns)) = held_more T m (m + 3) _ (omega arith) (all_append _ _ _ (all_take _ (list_place ns) ns low) (all_drop _ (suc (list_place ns)) ns low)) in
-      let list = list_held m first reports n h.0 r in
-      (all_append _ _ _ (all_take _ _ _ rest) (all_append _ _ _ list.0 (all_drop _ _ _ rest)), list.1)
+    all_held : (m first : ℕ) (reports : List Report) (o : Option Node) (ns : List Node) → AllHeld T m (option_to_list o) → AllHeld T m ns → ReportsHave T reports
+        → let all = nodes_with_docinfo parts first reports o ns in AllHeld T (m + 3) all.0 × ReportsHave T all.1
+    all_held m first reports None ns h low r = (held_more T m (m + 3) ns (omega arith) low, r)
+    all_held m first reports (Some n) ns h low r =
+        let rest : AllHeld T (m + 3) (remove ns (list_place ns)) = held_more T m (m + 3) _ (omega arith) (all_append _ _ _ (all_take _ (list_place ns) ns low) (all_drop _ (suc (list_place ns)) ns low)) in
+        let list = list_held m first reports n h.0 r in
+        (all_append _ _ _ (all_take _ _ _ rest) (all_append _ _ _ list.0 (all_drop _ _ _ rest)), list.1)
 
-  pub docinfo_held : (m : ℕ) (document : Document) (known : Known) → DocumentHeld T m document → KnownHas T known → DocumentHeld T (m + 3) (with_docinfo document known).0 × KnownHas T (with_docinfo document known).1
-  docinfo_held m document known h k =
-      let ns : List Node = nodes_of document.children in
-      let low : AllHeld T m ns = held_nodes T m document.children h.0 in
-      let list : AllHeld T m (option_to_list (leading_list ns)) = cond_both _ (slice_get ns (list_place ns)) None (λ o. AllHeld T m (option_to_list o)) (λ _. all_at (Held T m) ns (list_place ns) low) (λ _. tt) in
-      let all = all_held m known.first_number known.reports (leading_list ns) ns list low k in
-      ((held_forest T (m + 3) _ all.0, h.1), all.1)
+    pub docinfo_held : (m : ℕ) (document : Document) (known : Known) → DocumentHeld T m document → KnownHas T known → DocumentHeld T (m + 3) (with_docinfo parts document known).0 × KnownHas T (with_docinfo parts document known).1
+    docinfo_held m document known h k =
+        let ns : List Node = nodes_of document.children in
+        let low : AllHeld T m ns = held_nodes T m document.children h.0 in
+        let list : AllHeld T m (option_to_list (leading_list ns)) = cond_both _ (slice_get ns (list_place ns)) None (λ o. AllHeld T m (option_to_list o)) (λ _. all_at (Held T m) ns (list_place ns) low) (λ _. tt) in
+        let all = all_held m known.first_number known.reports (leading_list ns) ns list low k in
+        ((held_forest T (m + 3) _ all.0, h.1), all.1)

@@ -1,5 +1,6 @@
 //! Laws on what transforms add to trees, each by a function that does nothing and whose contract is the law.
 ghost use Rattle.std.specs.Prelude.{ℕ, ◌+◌, ◌≤◌, Bool, List, ◌-◌, max};
+ghost use Rattle.rst_settings.specs.declared.Parts.{Parts};
 ghost use Rattle.rst_settings.specs.declared.Threshold.{Threshold};
 ghost use Rattle.rst_tree.specs.Forest.{height};
 ghost use Rattle.rst_tree.specs.Nodes.{node_height};
@@ -45,7 +46,7 @@ pub fn filter_adds_nothing()
 
 /// Bibliographic fields add at most the levels of a message in the body of a field.
 pub fn docinfo_adds_little()
-    ensures { (document : Document) (known : Known) → height ((with_docinfo document known).0).children ≤ height document.children + 3 }
+    ensures { (parts : Parts) (document : Document) (known : Known) → height ((with_docinfo parts document known).0).children ≤ height document.children + 3 }
 {}
 
 /// Where each replacement text has at most `h` levels, with each substitution reference in it counted as `h`, a document whose references are

@@ -1,10 +1,12 @@
 -- The names of elements (Document Tree, 'Element Reference').
 use Rattle.std.specs.Prelude.{ℕ, ◌==◌, List, map, codes, if◌then◌else◌}
 use Rattle.rst_tree.specs.declared.tag.Tag.{Tag}
-use Rattle.rst_tree.specs.declared.tag.Tag.TheVariants.{Address, Admonition, Attention, Attribution, Author, Authors, BlockQuote, BulletList, Caption, Caution, Citation, CitationReference, Classifier, Colspec, Comment, Contact, Copyright, Danger, Date, Definition, DefinitionList, DefinitionListItem, Description, Docinfo, DoctestBlock, Document, Emphasis, Entry, EnumeratedList, Error, Field, FieldBody, FieldList, FieldName, Figure, Footnote, FootnoteReference, Hint, Image, Important, Label, Legend, Line, LineBlock, ListItem, Literal, LiteralBlock, Note, Option, OptionArgument, OptionGroup, OptionList, OptionListItem, OptionString, Organization, Paragraph, Problematic, Reference, Revision, Row, Section, Status, Strong, Subscript, SubstitutionDefinition, SubstitutionReference, Subtitle, Superscript, SystemMessage, Table, Target, Tbody, Term, Tgroup, Thead, Tip, Title, TitleReference, Topic, Transition, Version, Warning}
+use Rattle.rst_tree.specs.declared.tag.Tag.TheVariants.{Abbreviation, Acronym, Address, Admonition, Attention, Attribution, Author, Authors, BlockQuote, BulletList, Caption, Caution, Citation, CitationReference, Classifier, Colspec, Comment, Compound, Contact, Container, Copyright, Danger, Date, Definition, DefinitionList, DefinitionListItem, Description, Docinfo, DoctestBlock, Document, Emphasis, Entry, EnumeratedList, Error, Field, FieldBody, FieldList, FieldName, Figure, Footnote, FootnoteReference, Hint, Image, Important, Label, Legend, Line, LineBlock, ListItem, Literal, LiteralBlock, Math, MathBlock, Note, Option, OptionArgument, OptionGroup, OptionList, OptionListItem, OptionString, Organization, Paragraph, Problematic, Raw, Reference, Revision, Row, Rubric, Section, Sidebar, Status, Strong, Subscript, SubstitutionDefinition, SubstitutionReference, Subtitle, Superscript, SystemMessage, Table, Target, Tbody, Term, Tgroup, Thead, Tip, Title, TitleReference, Topic, Transition, Version, Warning}
 
 -- the name that is printed
 unfoldable pub tag_name : Tag → List ℕ
+tag_name Abbreviation = codes "abbreviation"
+tag_name Acronym = codes "acronym"
 tag_name Address = codes "address"
 tag_name Admonition = codes "admonition"
 tag_name Attention = codes "attention"
@@ -20,7 +22,9 @@ tag_name CitationReference = codes "citation_reference"
 tag_name Classifier = codes "classifier"
 tag_name Colspec = codes "colspec"
 tag_name Comment = codes "comment"
+tag_name Compound = codes "compound"
 tag_name Contact = codes "contact"
+tag_name Container = codes "container"
 tag_name Copyright = codes "copyright"
 tag_name Danger = codes "danger"
 tag_name Date = codes "date"
@@ -52,6 +56,8 @@ tag_name LineBlock = codes "line_block"
 tag_name ListItem = codes "list_item"
 tag_name Literal = codes "literal"
 tag_name LiteralBlock = codes "literal_block"
+tag_name Math = codes "math"
+tag_name MathBlock = codes "math_block"
 tag_name Note = codes "note"
 tag_name Option = codes "option"
 tag_name OptionArgument = codes "option_argument"
@@ -62,10 +68,13 @@ tag_name OptionString = codes "option_string"
 tag_name Organization = codes "organization"
 tag_name Paragraph = codes "paragraph"
 tag_name Problematic = codes "problematic"
+tag_name Raw = codes "raw"
 tag_name Reference = codes "reference"
 tag_name Revision = codes "revision"
 tag_name Row = codes "row"
+tag_name Rubric = codes "rubric"
 tag_name Section = codes "section"
+tag_name Sidebar = codes "sidebar"
 tag_name Status = codes "status"
 tag_name Strong = codes "strong"
 tag_name Subscript = codes "subscript"

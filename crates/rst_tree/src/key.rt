@@ -17,6 +17,7 @@ pub enum Key {
     Delimiter,
     Dupnames,
     Enumtype,
+    Format,
     Height,
     Ids,
     /// Hidden: of a target: it is in a text.
@@ -77,6 +78,7 @@ impl Key {
             Key::Delimiter => " delimiter=\"",
             Key::Dupnames => " dupnames=\"",
             Key::Enumtype => " enumtype=\"",
+            Key::Format => " format=\"",
             Key::Height => " height=\"",
             Key::Ids => " ids=\"",
             Key::Inline => " inline=\"",

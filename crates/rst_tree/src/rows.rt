@@ -47,39 +47,39 @@ pub fn attributes()
 /// Names of elements and attributes (Document Tree, 'Element Reference').
 pub fn names()
     ensures elements_to_label { map tag_name
-        (tag.Address ∷ tag.Admonition ∷ tag.Attention ∷ tag.Attribution ∷ tag.Author ∷ tag.Authors ∷ tag.BlockQuote ∷ tag.BulletList
-        ∷ tag.Caption ∷ tag.Caution ∷ tag.Citation ∷ tag.CitationReference ∷ tag.Classifier ∷ tag.Colspec ∷ tag.Comment ∷ tag.Contact
-        ∷ tag.Copyright ∷ tag.Danger ∷ tag.Date ∷ tag.Definition ∷ tag.DefinitionList ∷ tag.DefinitionListItem ∷ tag.Description ∷ tag.Docinfo
+        (tag.Abbreviation ∷ tag.Acronym ∷ tag.Address ∷ tag.Admonition ∷ tag.Attention ∷ tag.Attribution ∷ tag.Author ∷ tag.Authors ∷ tag.BlockQuote ∷ tag.BulletList
+        ∷ tag.Caption ∷ tag.Caution ∷ tag.Citation ∷ tag.CitationReference ∷ tag.Classifier ∷ tag.Colspec ∷ tag.Comment ∷ tag.Compound
+        ∷ tag.Contact ∷ tag.Container ∷ tag.Copyright ∷ tag.Danger ∷ tag.Date ∷ tag.Definition ∷ tag.DefinitionList ∷ tag.DefinitionListItem ∷ tag.Description ∷ tag.Docinfo
         ∷ tag.DoctestBlock ∷ tag.Document ∷ tag.Emphasis ∷ tag.Entry ∷ tag.EnumeratedList ∷ tag.Error ∷ tag.Field ∷ tag.FieldBody ∷ tag.FieldList
         ∷ tag.FieldName ∷ tag.Figure ∷ tag.Footnote ∷ tag.FootnoteReference ∷ tag.Hint ∷ tag.Image ∷ tag.Important ∷ tag.Label ∷ [])
-        ≡ codes "address" ∷ codes "admonition" ∷ codes "attention" ∷ codes "attribution" ∷ codes "author" ∷ codes "authors" ∷ codes "block_quote"
+        ≡ codes "abbreviation" ∷ codes "acronym" ∷ codes "address" ∷ codes "admonition" ∷ codes "attention" ∷ codes "attribution" ∷ codes "author" ∷ codes "authors" ∷ codes "block_quote"
         ∷ codes "bullet_list" ∷ codes "caption" ∷ codes "caution" ∷ codes "citation" ∷ codes "citation_reference" ∷ codes "classifier"
-        ∷ codes "colspec" ∷ codes "comment" ∷ codes "contact" ∷ codes "copyright" ∷ codes "danger" ∷ codes "date" ∷ codes "definition"
+        ∷ codes "colspec" ∷ codes "comment" ∷ codes "compound" ∷ codes "contact" ∷ codes "container" ∷ codes "copyright" ∷ codes "danger" ∷ codes "date" ∷ codes "definition"
         ∷ codes "definition_list" ∷ codes "definition_list_item" ∷ codes "description" ∷ codes "docinfo" ∷ codes "doctest_block"
         ∷ codes "document" ∷ codes "emphasis" ∷ codes "entry" ∷ codes "enumerated_list" ∷ codes "error" ∷ codes "field" ∷ codes "field_body"
         ∷ codes "field_list" ∷ codes "field_name" ∷ codes "figure" ∷ codes "footnote" ∷ codes "footnote_reference" ∷ codes "hint" ∷ codes "image"
         ∷ codes "important" ∷ codes "label" ∷ [] }
     ensures elements_from_legend { map tag_name
-        (tag.Legend ∷ tag.Line ∷ tag.LineBlock ∷ tag.ListItem ∷ tag.Literal ∷ tag.LiteralBlock ∷ tag.Note ∷ tag.Option
-        ∷ tag.OptionArgument ∷ tag.OptionGroup ∷ tag.OptionList ∷ tag.OptionListItem ∷ tag.OptionString ∷ tag.Organization ∷ tag.Paragraph
-        ∷ tag.Problematic ∷ tag.Reference ∷ tag.Revision ∷ tag.Row ∷ tag.Section ∷ tag.Status ∷ tag.Strong ∷ tag.Subscript
-        ∷ tag.SubstitutionDefinition ∷ tag.SubstitutionReference ∷ tag.Subtitle ∷ tag.Superscript ∷ tag.SystemMessage ∷ tag.Table ∷ tag.Target
+        (tag.Legend ∷ tag.Line ∷ tag.LineBlock ∷ tag.ListItem ∷ tag.Literal ∷ tag.LiteralBlock ∷ tag.Math ∷ tag.MathBlock ∷ tag.Note
+        ∷ tag.Option ∷ tag.OptionArgument ∷ tag.OptionGroup ∷ tag.OptionList ∷ tag.OptionListItem ∷ tag.OptionString ∷ tag.Organization ∷ tag.Paragraph
+        ∷ tag.Problematic ∷ tag.Raw ∷ tag.Reference ∷ tag.Revision ∷ tag.Row ∷ tag.Rubric ∷ tag.Section ∷ tag.Sidebar ∷ tag.Status ∷ tag.Strong
+        ∷ tag.Subscript ∷ tag.SubstitutionDefinition ∷ tag.SubstitutionReference ∷ tag.Subtitle ∷ tag.Superscript ∷ tag.SystemMessage ∷ tag.Table ∷ tag.Target
         ∷ tag.Tbody ∷ tag.Term ∷ tag.Tgroup ∷ tag.Thead ∷ tag.Tip ∷ tag.Title ∷ tag.TitleReference ∷ tag.Topic ∷ tag.Transition ∷ tag.Version
         ∷ tag.Warning ∷ [])
-        ≡ codes "legend" ∷ codes "line" ∷ codes "line_block" ∷ codes "list_item" ∷ codes "literal" ∷ codes "literal_block" ∷ codes "note"
+        ≡ codes "legend" ∷ codes "line" ∷ codes "line_block" ∷ codes "list_item" ∷ codes "literal" ∷ codes "literal_block" ∷ codes "math" ∷ codes "math_block" ∷ codes "note"
         ∷ codes "option" ∷ codes "option_argument" ∷ codes "option_group" ∷ codes "option_list" ∷ codes "option_list_item" ∷ codes "option_string"
-        ∷ codes "organization" ∷ codes "paragraph" ∷ codes "problematic" ∷ codes "reference" ∷ codes "revision" ∷ codes "row" ∷ codes "section"
-        ∷ codes "status" ∷ codes "strong" ∷ codes "subscript" ∷ codes "substitution_definition" ∷ codes "substitution_reference"
+        ∷ codes "organization" ∷ codes "paragraph" ∷ codes "problematic" ∷ codes "raw" ∷ codes "reference" ∷ codes "revision" ∷ codes "row"
+        ∷ codes "rubric" ∷ codes "section" ∷ codes "sidebar" ∷ codes "status" ∷ codes "strong" ∷ codes "subscript" ∷ codes "substitution_definition" ∷ codes "substitution_reference"
         ∷ codes "subtitle" ∷ codes "superscript" ∷ codes "system_message" ∷ codes "table" ∷ codes "target" ∷ codes "tbody" ∷ codes "term"
         ∷ codes "tgroup" ∷ codes "thead" ∷ codes "tip" ∷ codes "title" ∷ codes "title_reference" ∷ codes "topic" ∷ codes "transition"
         ∷ codes "version" ∷ codes "warning" ∷ [] }
     ensures attributes { map key_name
         (key.Align ∷ key.Alt ∷ key.Anonymous ∷ key.Auto ∷ key.Backrefs ∷ key.Bullet ∷ key.Classes ∷ key.Cols ∷ key.Colwidth
-        ∷ key.Delimiter ∷ key.Dupnames ∷ key.Enumtype ∷ key.Height ∷ key.Ids ∷ key.Level ∷ key.Line ∷ key.Morecols ∷ key.Morerows ∷ key.Name
+        ∷ key.Delimiter ∷ key.Dupnames ∷ key.Enumtype ∷ key.Format ∷ key.Height ∷ key.Ids ∷ key.Level ∷ key.Line ∷ key.Morecols ∷ key.Morerows ∷ key.Name
         ∷ key.Names ∷ key.Prefix ∷ key.Refid ∷ key.Refuri ∷ key.Scale ∷ key.Source ∷ key.Start ∷ key.Suffix ∷ key.Title ∷ key.Type_ ∷ key.Uri
         ∷ key.Width ∷ key.XmlSpace ∷ [])
         ≡ codes "align" ∷ codes "alt" ∷ codes "anonymous" ∷ codes "auto" ∷ codes "backrefs" ∷ codes "bullet" ∷ codes "classes" ∷ codes "cols"
-        ∷ codes "colwidth" ∷ codes "delimiter" ∷ codes "dupnames" ∷ codes "enumtype" ∷ codes "height" ∷ codes "ids" ∷ codes "level" ∷ codes "line"
+        ∷ codes "colwidth" ∷ codes "delimiter" ∷ codes "dupnames" ∷ codes "enumtype" ∷ codes "format" ∷ codes "height" ∷ codes "ids" ∷ codes "level" ∷ codes "line"
         ∷ codes "morecols" ∷ codes "morerows" ∷ codes "name" ∷ codes "names" ∷ codes "prefix" ∷ codes "refid" ∷ codes "refuri" ∷ codes "scale"
         ∷ codes "source" ∷ codes "start" ∷ codes "suffix" ∷ codes "title" ∷ codes "type" ∷ codes "uri" ∷ codes "width" ∷ codes "xml:space" ∷ [] }
 {}

@@ -3,12 +3,13 @@
 
 ghost use Rattle.std.specs.Prelude.{[], ◌∷◌, codes};
 ghost use Rattle.rst_settings.specs.declared.Threshold.TheVariants.{Info, Error, Never};
-ghost use Rattle.rst2pseudoxml_run.specs.Written.{usual, Outputs, ReportsOn, Reports};
+ghost use Rattle.rst2pseudoxml_run.specs.Written.{usual, Outputs, OutputsJson, ReportsOn, Reports};
 
-/// Documents of no line, and of a line without an end (Markup Specification, 'Document').
+/// Documents of no line, and of a line without an end (Markup Specification, 'Document'); a document as JSON (RFC 8259).
 pub fn documents()
     ensures empty { Outputs [] ("<document source=\"x\">" ∷ []) }
     ensures one_line { ReportsOn usual (codes "Hello, world") ("<document source=\"x\">" ∷ "    <paragraph>" ∷ "        Hello, world" ∷ []) [] 0 }
+    ensures json { OutputsJson ("A *b*" ∷ []) "[\"document\",0,{},[\"paragraph\",1,{},\"A \",[\"emphasis\",1,{},\"b\"]]]\n" }
 {}
 
 /// Titles and subtitles of documents (Markup Specification, 'Document Title').

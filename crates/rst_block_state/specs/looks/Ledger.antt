@@ -24,7 +24,7 @@ use Rattle.rst_block_state.specs.declared.waits.Waits.TheVariants.{Quote, Figure
 use Rattle.rst_block_state.specs.declared.run.Run.{Run}
 use Rattle.rst_block_state.specs.declared.run.Run.TheVariants.{None as NoRun}
 use Rattle.rst_block_state.specs.declared.step.Step.{Step}
-use Rattle.rst_block_state.specs.declared.step.Step.TheVariants.{Begin, Next, Open, Cells, Done}
+use Rattle.rst_block_state.specs.declared.step.Step.TheVariants.{Begin, Open, Cells, Done}
 
 -- ---- blocks
 

@@ -17,9 +17,9 @@ use Rattle.rst_markup_tables.specs.declared.results.Cell.{Cell}
 use Rattle.rst_markup_tables.specs.declared.results.TableResult.{TableResult}
 use Rattle.rst_markup_tables.specs.declared.results.TableResult.TheVariants.{Table}
 use Rattle.rst_block_nodes.specs.declared.texted.Texted.{Texted}
-use Rattle.rst_block_state.specs.looks.Budget.{sum_of, total, document_budget, document_floor}
+use Rattle.rst_block_state.specs.looks.Budget.{total, document_budget, document_floor}
 use Rattle.rst_block_state.specs.Inside.{quoted_blocks, cell_blocks}
-use Rattle.rst_block_state.specs.looks.Ledger.{total_at, totals, most_from, least_from, run_looks, waiting_looks, quotes_left, part_blocks, most_after, least_after, most_in, least_in, most_left, least_left, WaitsForOne, IsPaid, AreQuotesPaid, Takes}
+use Rattle.rst_block_state.specs.looks.Ledger.{total_at, totals, most_from, least_from, run_looks, waiting_looks, quotes_left, most_after, least_after, most_in, least_in, most_left, least_left, WaitsForOne, IsPaid, AreQuotesPaid, Takes}
 use Rattle.rst_block_state.specs.machine.MeaningLaws.{first_lines_of}
 use Rattle.rst_block_state.specs.machine.Meanings.{deepest}
 use Rattle.rst_block_state.specs.Quotes.{first_attribution}
@@ -29,7 +29,6 @@ use Rattle.rst_block_state.specs.declared.frame.Frame.{Frame}
 use Rattle.rst_block_state.specs.declared.open_block.OpenBlock.{OpenBlock}
 use Rattle.rst_block_state.specs.declared.waits.Waits.{Waits}
 use Rattle.rst_block_state.specs.declared.waits.Waits.TheVariants.{Quote}
-use Rattle.rst_block_state.specs.declared.run.Run.TheVariants.{None as NoRun}
 use Rattle.rst_block_state.specs.declared.step.Step.{Step}
 use Rattle.rst_block_state.specs.declared.step.Step.TheVariants.{Begin, Next, Open, Cells, Done}
 

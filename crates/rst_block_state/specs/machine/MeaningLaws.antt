@@ -1,7 +1,7 @@
 -- Laws on what the state of the machine means: where blocks begin, wait and end.
-use Rattle.std.specs.Prelude.{◌≡◌, ℕ, suc, ◌+◌, ◌-◌, ◌<◌, ◌≤◌, ◌⊎◌, length, List, [], ◌∷◌, ◌++◌, drop, Option, Some, None, Result, Ok, Err, Box, box_value}
+use Rattle.std.specs.Prelude.{◌≡◌, ℕ, suc, ◌+◌, ◌-◌, ◌<◌, ◌≤◌, length, List, [], ◌∷◌, ◌++◌, drop, Some, None, Result, Ok, Err, Box, box_value}
 use Rattle.std.specs.declared.alloc.Global.{Global}
-use Rattle.rst_text.specs.Block.{Block, first_number}
+use Rattle.rst_text.specs.Block.{Block, first_number, first_parts}
 use Rattle.rst_text.specs.ViewBlock.{placement_block}
 use Rattle.rst_tree.specs.declared.node.Node.{Node}
 use Rattle.rst_tree.specs.declared.tag.Tag.TheVariants.{Attribution as AttributionTag}
@@ -14,8 +14,8 @@ use Rattle.rst_block_nodes.specs.declared.texted.Texted.{Texted}
 use Rattle.rst_block_nodes.specs.declared.heading.Heading.{Heading}
 use Rattle.rst_block_nodes.specs.Sections.{title_of}
 use Rattle.rst_block_state.specs.Lists.{list_item}
-use Rattle.rst_block_state.specs.machine.Meanings.{IsNew, open_run_of, deepest, within_at, done_of, reads, reads_from, quotes_from, with_item, resumed, after, plug, comes}
-use Rattle.rst_block_state.specs.Nodes.{below_last_level, block_items, nodes_among}
+use Rattle.rst_block_state.specs.machine.Meanings.{IsNew, open_run_of, deepest, within_at, done_of, reads, reads_from, quotes_from, with_item, after, plug, comes}
+use Rattle.rst_block_state.specs.Nodes.{below_last_level, nodes_among}
 use Rattle.rst_block_state.specs.Numbered.{◌>>=◌, just, before}
 use Rattle.rst_block_state.specs.machine.OpenBlocks.{IsMoved, HasMore, HasItem, HasTitle}
 use Rattle.rst_block_state.specs.Quotes.{first_attribution, quotes}
@@ -26,7 +26,6 @@ use Rattle.rst_block_state.specs.Titles.{Item, titled}
 use Rattle.rst_block_state.specs.Within.{Within}
 use Rattle.rst_block_state.specs.declared.frame.Frame.{Frame}
 use Rattle.rst_block_state.specs.declared.open_block.OpenBlock.{OpenBlock}
-use Rattle.rst_block_state.specs.declared.waits.Waits.{Waits}
 use Rattle.rst_block_state.specs.declared.waits.Waits.TheVariants.{ListItem, Quote}
 use Rattle.rst_block_state.specs.declared.step.Step.TheVariants.{Begin, Open}
 
@@ -103,7 +102,7 @@ pub record IsAttributed (Q : Block) (k next : ℕ) (made : Texted) (number after
   pub attribution : Attribution
   pub first : first_attribution Q ≡ Some (k, attribution)
   pub after_blanks : next ≡ attribution.end + lines_while Blank (drop attribution.end Q)
-  pub read : texted AttributionTag (first_number (drop k Q)) (joined (lines_in Q (attribution_part k attribution))) (first_number (drop k Q)) number
+  pub read : texted (first_parts (drop k Q)) AttributionTag (first_number (drop k Q)) (joined (lines_in Q (attribution_part k attribution))) (first_number (drop k Q)) number
       ≡ Ok ((made.element, made.notes.items), after)
 
 -- the first k lines of a part

@@ -1,5 +1,5 @@
 -- Laws on what is still to come of a block: line by line, and for each kind of construct.
-use Rattle.std.specs.Prelude.{◌≡◌, ℕ, suc, ◌≤◌, ◌==◌, true, List, [], ◌∷◌, ◌++◌, drop, map, length, Some, None}
+use Rattle.std.specs.Prelude.{◌≡◌, ℕ, ◌≤◌, ◌==◌, true, List, [], ◌∷◌, ◌++◌, drop, map, length, Some, None}
 use Rattle.rst_text.specs.Block.{Block}
 use Rattle.rst_markup_lines.specs.declared.marker.Marker.{Marker}
 use Rattle.rst_markup_blocks.specs.Partition.{Span, AreBlank, IsTextAt}

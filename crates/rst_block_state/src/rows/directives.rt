@@ -2,7 +2,7 @@
 #![tactic(auto, unfolding(crate::proofs::Computing::rst_block_state))]
 
 ghost use Rattle.std.specs.Prelude.{[], ◌∷◌};
-ghost use Rattle.rst_block_state.specs.Reads.{Means, Reads};
+ghost use Rattle.rst_block_state.specs.Reads.{Means, MeansWider, Reads};
 
 /// Admonitions (Directives, 'Specific Admonitions').
 pub fn admonitions()
@@ -245,4 +245,43 @@ pub fn directives()
     ensures note_and_image { Reads (".. note:: Hi" ∷ "" ∷ "   x" ∷ ".. image:: a.png" ∷ "   :scale: 50%" ∷ [])
         ("<document>" ∷ "    <note>" ∷ "        <paragraph>" ∷ "            Hi" ∷ "        <paragraph>" ∷ "            x"
         ∷ "    <image scale=\"50\" uri=\"a.png\">" ∷ []) }
+{}
+
+/// Directives of the wider profile (Directives, 'Rubric', 'Parsed Literal Block', 'Raw Data Pass-Through', 'Including an External Document
+/// Fragment', 'Compound Paragraph', 'Container'), and a blank line after the first line of a directive (Markup Specification, 'Directives').
+pub fn wider()
+    ensures rubric { MeansWider (".. rubric:: A *small*" ∷ "   heading" ∷ "   :class: c" ∷ "   :name: My Name" ∷ []) 0
+        ("<document> 0" ∷ "    <rubric classes=\"c\" own_name=\"my name\"> 1" ∷ "        A " ∷ "        <emphasis> 1" ∷ "            small" ∷ "        "
+        ∷ "        heading" ∷ []) }
+    ensures message_of_a_rubric { MeansWider (".. rubric:: a *b" ∷ []) 1
+        ("<document> 0" ∷ "    <rubric text_messages=\"1\"> 1" ∷ "        a " ∷ "        <problematic message=\"0\"> 1" ∷ "            *" ∷ "        b"
+        ∷ "    <system_message level=\"2\" message=\"0\"> 1" ∷ "        <paragraph> 1"
+        ∷ "            Inline emphasis start-string without end-string." ∷ []) }
+    ensures rubric_without_a_text { MeansWider (".. rubric::" ∷ []) 0
+        ("<document> 0" ∷ "    <system_message level=\"3\"> 1" ∷ "        <paragraph> 1" ∷ "            Error in \"rubric\" directive:"
+        ∷ "            1 argument(s) required, 0 supplied." ∷ "        <literal_block xml:space=\"preserve\"> 1" ∷ "            .. rubric::" ∷ []) }
+    ensures parsed_literal { MeansWider (".. parsed-literal::" ∷ "" ∷ "   a *b*" ∷ "" ∷ "     c" ∷ []) 0
+        ("<document> 0" ∷ "    <literal_block xml:space=\"preserve\"> 1" ∷ "        a " ∷ "        <emphasis> 1" ∷ "            b" ∷ "        " ∷ "        "
+        ∷ "          c" ∷ []) }
+    ensures text_beside_the_mark { MeansWider (".. parsed-literal:: a" ∷ "   :class: c" ∷ "" ∷ "" ∷ "   b" ∷ []) 0
+        ("<document> 0" ∷ "    <literal_block classes=\"c\" xml:space=\"preserve\"> 1" ∷ "        a" ∷ "        " ∷ "        " ∷ "        b" ∷ []) }
+    ensures raw { MeansWider (".. raw:: HTML  x.y" ∷ "" ∷ "     x" ∷ "" ∷ "   *y*" ∷ []) 0
+        ("<document> 0" ∷ "    <raw format=\"html x.y\" xml:space=\"preserve\"> 1" ∷ "          x" ∷ "        " ∷ "        *y*" ∷ []) }
+    ensures raw_file { MeansWider (".. raw:: html" ∷ "   :file: a" ∷ []) 0
+        ("<document> 0" ∷ "    <system_message level=\"2\"> 1" ∷ "        <paragraph> 1" ∷ "            \"raw\" directive disabled."
+        ∷ "        <literal_block xml:space=\"preserve\"> 1" ∷ "            .. raw:: html" ∷ "               :file: a" ∷ []) }
+    ensures include { MeansWider (".. include:: inc.txt" ∷ []) 0
+        ("<document> 0" ∷ "    <system_message level=\"2\"> 1" ∷ "        <paragraph> 1" ∷ "            \"include\" directive disabled."
+        ∷ "        <literal_block xml:space=\"preserve\"> 1" ∷ "            .. include:: inc.txt" ∷ []) }
+    ensures compound { MeansWider (".. compound::" ∷ "" ∷ "   a" ∷ "" ∷ "   b" ∷ []) 0
+        ("<document> 0" ∷ "    <compound> 1" ∷ "        <paragraph> 3" ∷ "            a" ∷ "        <paragraph> 5" ∷ "            b" ∷ []) }
+    ensures container { MeansWider (".. container:: A b" ∷ "   :name: c" ∷ "" ∷ "   x" ∷ []) 0
+        ("<document> 0" ∷ "    <container classes=\"a b\" own_name=\"c\"> 1" ∷ "        <paragraph> 4" ∷ "            x" ∷ []) }
+    ensures no_class_name { MeansWider (".. container:: 1" ∷ "" ∷ "   x" ∷ []) 0
+        ("<document> 0" ∷ "    <system_message level=\"3\"> 1" ∷ "        <paragraph> 1"
+        ∷ "            Invalid class attribute value for \"container\" directive: \"1\"." ∷ "        <literal_block xml:space=\"preserve\"> 1"
+        ∷ "            .. container:: 1" ∷ "            " ∷ "               x" ∷ []) }
+    ensures late_options { MeansWider (".. tip::" ∷ "" ∷ "   :a: b" ∷ []) 0
+        ("<document> 0" ∷ "    <tip> 1" ∷ "        <field_list> 3" ∷ "            <field> 3" ∷ "                <field_name> 3" ∷ "                    a"
+        ∷ "                <field_body> 3" ∷ "                    <paragraph> 3" ∷ "                        b" ∷ []) }
 {}

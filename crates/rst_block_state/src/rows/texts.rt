@@ -2,7 +2,7 @@
 #![tactic(auto, unfolding(crate::proofs::Computing::rst_block_state))]
 
 ghost use Rattle.std.specs.Prelude.{[], ◌∷◌};
-ghost use Rattle.rst_block_state.specs.Reads.{IsTooDeep, Means, Reads};
+ghost use Rattle.rst_block_state.specs.Reads.{IsTooDeep, Means, MeansWider, Reads};
 
 /// Inline markup (Markup Specification, 'Inline Markup').
 pub fn inline_markup()
@@ -107,6 +107,24 @@ pub fn references()
         ∷ "            <substitution_reference>" ∷ "                d" ∷ []) }
     ensures inline_target { Means ("_`A b`" ∷ []) 0
         ("<document> 0" ∷ "    <paragraph> 1" ∷ "        <target inline=\"1\" own_name=\"a b\"> 1" ∷ "            A b" ∷ []) }
+{}
+
+/// Texts in the wider profile: addresses in each kind of text (Markup Specification, 'Standalone Hyperlinks'), the names of roles (Docutils,
+/// 'Interpreted Text Roles'), and a role where a field might begin (Markup Specification, 'Field Lists').
+pub fn wider()
+    ensures addresses { MeansWider ("a@b.c" ∷ "  x" ∷ "" ∷ ":a@b.c: x" ∷ "" ∷ "| a@b.c" ∷ "" ∷ "  x" ∷ "" ∷ "  -- a@b.c" ∷ []) 0
+        ("<document> 0" ∷ "    <definition_list> 1" ∷ "        <definition_list_item> 1" ∷ "            <term> 1"
+        ∷ "                <reference rawsource=\"a@b.c\" refuri=\"mailto:a@b.c\"> 1" ∷ "                    a@b.c" ∷ "            <definition> 1"
+        ∷ "                <paragraph> 2" ∷ "                    x" ∷ "    <field_list> 4" ∷ "        <field> 4" ∷ "            <field_name> 4"
+        ∷ "                <reference rawsource=\"a@b.c\" refuri=\"mailto:a@b.c\"> 4" ∷ "                    a@b.c" ∷ "            <field_body> 4"
+        ∷ "                <paragraph> 4" ∷ "                    x" ∷ "    <line_block> 6" ∷ "        <line> 6"
+        ∷ "            <reference rawsource=\"a@b.c\" refuri=\"mailto:a@b.c\"> 6" ∷ "                a@b.c" ∷ "    <block_quote> 8"
+        ∷ "        <paragraph> 8" ∷ "            x" ∷ "        <attribution> 10"
+        ∷ "            <reference rawsource=\"a@b.c\" refuri=\"mailto:a@b.c\"> 10" ∷ "                a@b.c" ∷ []) }
+    ensures address_of_a_target { MeansWider (".. _a: b@c.d" ∷ []) 0
+        ("<document> 0" ∷ "    <target own_name=\"a\" refuri=\"mailto:b@c.d\"> 1" ∷ []) }
+    ensures role_for_a_field { MeansWider (":T:`a`: b" ∷ []) 0
+        ("<document> 0" ∷ "    <paragraph> 1" ∷ "        <title_reference> 1" ∷ "            a" ∷ "        : b" ∷ []) }
 {}
 
 /// How deeply blocks may be nested (Markup Specification, 'Body Elements').

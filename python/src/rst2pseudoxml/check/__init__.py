@@ -30,14 +30,14 @@ What a known directive holds is read as a part of the page if a mark comes after
 
 Without a mark nothing in a directive is read. The lists of this package have marks.
 
-These messages are left out: that a known name is unknown, or that a known directive has an unknown option; that a substitution isn't
+These messages are left out: that a known name is unknown; that a known directive has an unknown option, or reads a file; that a substitution isn't
 valid, or isn't defined, because its definition has a known directive or role; that a name isn't defined which the source of a known
 directive defines (as a target, citation, footnote, substitution or role, or by its option `name`), or a file of Docutils that it
 includes, such as <isonum.txt>. Messages on other names are shown, since nothing here says what defines them. If all messages of
 some pages are on unknown names, a last line on standard error says with which option these pages pass.
 
-PROFILE is docutils (the default) or base. With docutils more is read as Docutils has it (docs/profile/wider.md): so far, that a
-line which begins with a role is no field. With base a page is read as the program rst2pseudoxml reads it.
+PROFILE is docutils (the default) or base. With docutils more is read as Docutils has it (docs/profile/wider.md), such as e-mail addresses, and more
+directives and roles. With base a page is read as the program rst2pseudoxml reads it.
 
 With --code the blocks of code are read whose language is JSON, Python, TOML (by Python 3.11 or later) or XML. A fault is an ERROR.
 

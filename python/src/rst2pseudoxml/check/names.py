@@ -156,6 +156,8 @@ class Names:
             return self._define("directive:" + quoted, source)
         if text.startswith('Unknown interpreted text role "'):
             return self._definer("role:" + quoted, "role:" + quoted)
+        if text.endswith('" directive disabled.'):
+            return self._define("directive:" + quoted, source)
         if UNKNOWN_OPTION.match(text):
             return self._define("directive:" + quoted.partition('"')[0], source)
         if text.startswith('Substitution definition "'):

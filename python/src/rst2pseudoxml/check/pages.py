@@ -19,7 +19,7 @@ TOPIC = 'The "topic" directive may not be used within'
 OPTION = re.compile(r'Error in "(.*)" directive:\nunknown option: "(.*)"\.')
 CODE = ("code", "code-block", "sourcecode")
 JOINED = "Line block ends without a blank line."
-ERROR = 3
+WARNING, ERROR = 2, 3
 
 
 class Reader:
@@ -225,7 +225,8 @@ class Pages:
         self.code = code
         self.profile: str = settings["profile"]
         self.tab_width: int = settings.get("tab_width", 8)
-        self.reader = Reader(min(self.level, ERROR) if self.known.marks and self.level <= 4 else self.level, settings)
+        # the message on a directive that reads a file, and that may so define names, is a WARNING
+        self.reader = Reader(min(self.level, WARNING) if self.level <= 4 else self.level, settings)
 
     def read(self, page: AnyText, source: str = "<stdin>") -> Page:
         """Reads a page, which its messages call by the name `source`. If it is refused, that is a `Refused`."""

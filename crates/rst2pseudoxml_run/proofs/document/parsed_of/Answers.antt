@@ -1,22 +1,22 @@
-use Rattle.std.proofs.Common.{◌≡◌, ◌∙◌, Some, sym, ap}
+use Rattle.std.proofs.Common.{◌≡◌, ◌∙◌, Err, Some, sym, ap}
 use Rattle.std.specs.Str.{chars}
-use Rattle.rst_text.specs.Lines.{lines_of}
+use Rattle.rst_settings.specs.declared.Settings.{Settings}
 use Rattle.rst_text.specs.Text.{text_of}
-use Rattle.rst2pseudoxml_run.specs.Reading.{lines_under}
-use Rattle.rst2pseudoxml_run.proofs.DocumentLemmas.{read_short}
+use Rattle.rst2pseudoxml_run.specs.Reading.{held}
+use Rattle.rst2pseudoxml_run.proofs.DocumentLemmas.{read_long, read_short}
 use Rattle.rst2pseudoxml_run.proofs.document.parsed_of.Goals as goal
 
 pub returns-in-Ok-parse : goal.returns-in-Ok-parse
 returns-in-Ok-parse c =
+    let settings = c.args.settings.now in
     let is : text_of c.args.bytes.items ≡ Some (chars c.in-Ok.text.now) = sym (ap text_of c.as_slice.ensures.value) ∙ c.in-Ok.ensures in
-    let made : c.in-Ok-within.lines ≡ lines_under c.args.settings.now (chars c.in-Ok.text.now) =
-    c.in-Ok-within.ensures.0 ∙ ap (λ parts. lines_of parts c.args.settings.now.tab (chars c.in-Ok.text.now)) c.parts_in-parts.ensures in
-    read_short c.args.settings.now c.args.bytes.items (chars c.in-Ok.text.now) c.in-Ok-within.lines _ is made c.in-Ok-within.ensures.1 (c.in-Ok-parse.ensures.tree c.args.settings.now)
+    let holds : c.held_in-held.result ≡ held settings (text_of c.args.bytes.items) = c.held_in-held.ensures ∙ sym (ap (held settings) is) in
+    (holds, read_short settings c.args.bytes.items _ c.held_in-held.result c.in-Ok-within.lines _ is holds c.in-Ok-within.ensures.0 c.in-Ok-within.ensures.1 (c.in-Ok-parse.ensures.tree settings))
 
 pub returns-in-Err-TooDeep : goal.returns-in-Err-TooDeep
 returns-in-Err-TooDeep c =
+    let settings = c.args.settings.now in
     let is : text_of c.args.bytes.items ≡ Some (chars c.in-Ok.text.now) = sym (ap text_of c.as_slice.ensures.value) ∙ c.in-Ok.ensures in
-    let made : c.in-Ok-within.lines ≡ lines_under c.args.settings.now (chars c.in-Ok.text.now) =
-    c.in-Ok-within.ensures.0 ∙ ap (λ parts. lines_of parts c.args.settings.now.tab (chars c.in-Ok.text.now)) c.parts_in-parts.ensures in
-    let deep = c.in-Err-TooDeep.ensures.tree c.args.settings.now in
-    read_short c.args.settings.now c.args.bytes.items (chars c.in-Ok.text.now) c.in-Ok-within.lines _ is made c.in-Ok-within.ensures.1 (rw c.in-Err-TooDeep.field-0-is at deep)
+    let holds : c.held_in-held.result ≡ held settings (text_of c.args.bytes.items) = c.held_in-held.ensures ∙ sym (ap (held settings) is) in
+    let deep = c.in-Err-TooDeep.ensures.tree settings in
+    read_short settings c.args.bytes.items _ c.held_in-held.result c.in-Ok-within.lines (Err c.in-Err-TooDeep.line) is holds c.in-Ok-within.ensures.0 c.in-Ok-within.ensures.1 (rw c.in-Err-TooDeep.field-0-is at deep)

@@ -7,18 +7,23 @@ use Rattle.rst2pseudoxml_run.proofs.reporting.report.Goals as goal
 
 pub returns-in-Options-clause-line : goal.returns-in-Options-clause-line
 returns-in-Options-clause-line g c =
-    let P : List ℕ → Type 0 = λ message. IsSent g.E.WriteCall.call_takes g.E.Write.contents c.args.err.now c.say-in-Options.new.err (fault_line message) in
+    let P : List ℕ → Type 0 = λ message. IsSent g.E.WriteCall.call_takes g.E.Write.contents c.args.err.now c.say-in-Options.new.err (fault_line c.args.by.now message) in
     rw c.in-Options.is (subst P c.option_message.ensures c.say-in-Options.ensures)
+
+pub returns-in-Refused-clause-line : goal.returns-in-Refused-clause-line
+returns-in-Refused-clause-line g c =
+    let P : List ℕ → Type 0 = λ message. IsSent g.E.WriteCall.call_takes g.E.Write.contents c.args.err.now c.say-in-Refused.new.err (fault_line c.args.by.now message) in
+    rw c.in-Refused.is (subst P c.as_str.ensures.value c.say-in-Refused.ensures)
 
 pub returns-in-Open-clause-line : goal.returns-in-Open-clause-line
 returns-in-Open-clause-line g c =
-    let P : List ℕ → Type 0 = λ message. IsSent g.E.WriteCall.call_takes g.E.Write.contents c.args.err.now c.say_of.new.err (fault_line message) in
-    let whole = append-nil (codes "cannot open " ++ c.as_str.result.now) ∙ ap (λ named. codes "cannot open " ++ named) c.as_str.ensures.value in
+    let P : List ℕ → Type 0 = λ message. IsSent g.E.WriteCall.call_takes g.E.Write.contents c.args.err.now c.say_of.new.err (fault_line c.args.by.now message) in
+    let whole = append-nil (codes "cannot open " ++ c.as_str-in-Open.result.now) ∙ ap (λ named. codes "cannot open " ++ named) c.as_str-in-Open.ensures.value in
     rw c.in-Open.is (subst P whole c.say_of.ensures)
 
 pub returns-in-NotUtf8 : goal.returns-in-NotUtf8
 returns-in-NotUtf8 g c =
-    let P : List ℕ → Type 0 = λ message. IsSent g.E.WriteCall.call_takes g.E.Write.contents c.args.err.now c.say_of-in-NotUtf8.new.err (fault_line message) in
+    let P : List ℕ → Type 0 = λ message. IsSent g.E.WriteCall.call_takes g.E.Write.contents c.args.err.now c.say_of-in-NotUtf8.new.err (fault_line c.args.by.now message) in
     rw (c.in-Ran.is, c.in-NotUtf8.is) (record { line = subst P (append-nil (codes "not UTF-8 at byte " ++ decimal c.in-NotUtf8.at)) (rw (c.format.ensures.text) at c.say_of-in-NotUtf8.ensures); status = refl })
 
 pub returns-in-Read : goal.returns-in-Read

@@ -4,4 +4,4 @@ use Rattle.rst_block_laws.proofs.TextFits.{text_fits}
 use Rattle.rst_block_laws.proofs.laws.texts_are_low.Goals as goal
 
 pub returns : goal.returns
-returns c = λ t line number ps. fit_low Anything 3 _ (text_fits any Anything any_suited t line number ps (any_kept t))
+returns c = λ parts t line number ps. fit_low Anything 3 _ (text_fits any Anything any_suited parts t line number ps (any_kept t))

@@ -6,6 +6,6 @@ use Rattle.rst_block_laws.proofs.laws.texts_stay.Goals as goal
 
 pub returns : goal.returns
 returns c = record {
-  nodes = λ P t line number pieces s h. fit_have (Spells P) 3 _ (text_fits P (Spells P) (spelled_suited P s) t line number pieces h);
-  notes = λ P t line pieces s h. notes_have P (Spells P) (spelled_suited P s) t line pieces h;
+  nodes = λ P parts t line number pieces s h. fit_have (Spells P) 3 _ (text_fits P (Spells P) (spelled_suited P s) parts t line number pieces h);
+  notes = λ P parts t line pieces s h. notes_have P (Spells P) (spelled_suited P s) parts t line pieces h;
 }

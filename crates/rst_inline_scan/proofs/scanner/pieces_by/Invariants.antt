@@ -1,4 +1,4 @@
-use Rattle.std.proofs.Common.{◌-◌, length}
+use Rattle.std.proofs.Common.{◌-◌, false, length}
 use Rattle.rst_inline_scan.specs.Calm.{IsScanned}
 use Rattle.rst_inline_scan.specs.Missing.{IsMissing}
 use Rattle.rst_inline_scan.proofs.ReadingLemmas.{Gathered}
@@ -9,7 +9,7 @@ decreases-loop-place l = length l.text - l.place
 
 abbrev pub invariant-loop-place : goal.invariant-loop-place
 invariant-loop-place l = record {
-  scanned : IsScanned l.text l.from l.place l.escaped;
+  scanned : IsScanned false l.text l.from l.place l.escaped;
   known : IsMissing l.text l.missing l.place;
-  gathered : Gathered l.text l.from l.pieces.items;
+  gathered : Gathered false l.text l.from l.pieces.items;
 }

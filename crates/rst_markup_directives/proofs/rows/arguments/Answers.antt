@@ -9,4 +9,8 @@ returns c = record {
   with_uri = refl;
   backslash_in_a_uri = refl;
   with_language = refl;
+  with_formats = refl;
+  blank_lines_in_a_text = refl;
+  with_classes = refl;
+  no_classes = refl;
 }

@@ -12,5 +12,8 @@ returns c = record {
   without_content = refl;
   topic = refl;
   replacement = refl;
+  disabled = refl;
+  classes = refl;
+  levels = refl;
   definition = refl;
 }

@@ -12,5 +12,8 @@ returns c = record {
   code = refl;
   no_code = refl;
   case_of_letters = refl;
+  further = refl;
+  without_their_part = refl;
+  wider = refl;
   left_out = refl;
 }

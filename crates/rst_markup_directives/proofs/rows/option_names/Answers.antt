@@ -6,9 +6,14 @@ pub returns : goal.returns
 unfolding rst_markup_directives
 returns c = record {
   each = refl;
+  inclusion = refl;
   case_of_letters = refl;
   image = refl;
   figure = refl;
+  raw = refl;
+  files = refl;
+  of_include = refl;
   common = refl;
+  name_alone = refl;
   none = refl;
 }

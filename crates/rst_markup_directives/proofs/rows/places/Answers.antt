@@ -13,5 +13,10 @@ returns c = record {
   with_content = refl;
   topic = refl;
   replacement = refl;
+  no_text = refl;
+  text = refl;
+  further_in_a_definition = refl;
+  include = refl;
+  raw_file = refl;
   two_paragraphs = refl;
 }

@@ -10,6 +10,7 @@ returns c = record {
   empty_alt = refl;
   alt = refl;
   name = refl;
+  file = refl;
   height = refl;
   width = refl;
   figure_width = refl;

@@ -11,5 +11,6 @@ returns c = record {
   invalid_value = refl;
   missing_argument = refl;
   option_for_an_argument = refl;
+  no_formats = refl;
   text_among_options = refl;
 }

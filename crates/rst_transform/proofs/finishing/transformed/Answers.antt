@@ -16,11 +16,11 @@ returns c =
       | then-settings+in_ok-titled w ↦ rw (w.titled-is, w.context-is, w.if-settings.true) w.in_ok-titled.ensures
       | else-settings w ↦ rw (w.titled-is, w.context-is, w.if-settings.false) (λ known holds. (refl, holds))
     ] in
-    let info : Makes (asked settings.info with_docinfo c.if-settings.titled) c.if-settings.context c.if-settings-2.context c.if-settings-2.informed = elim c.if-settings-2.branch [
+    let info : Makes (asked settings.info (with_docinfo settings.parts) c.if-settings.titled) c.if-settings.context c.if-settings-2.context c.if-settings-2.informed = elim c.if-settings-2.branch [
       | then-settings-2+in_ok-informed w ↦ rw (w.informed-is, w.context-is, w.if-settings-2.true) w.in_ok-informed.ensures
       | else-settings-2 w ↦ rw (w.informed-is, w.context-is, w.if-settings-2.false) (λ known holds. (refl, holds))
     ] in
     let titled = makes_then _ (asked settings.title with_title) c.args.context.now c.with_early.new.context c.if-settings.context _ _ c.in_ok-retargeted.ensures title in
-    let informed = makes_then _ (asked settings.info with_docinfo) c.args.context.now c.if-settings.context c.if-settings-2.context _ _ titled info in
+    let informed = makes_then _ (asked settings.info (with_docinfo settings.parts)) c.args.context.now c.if-settings.context c.if-settings-2.context _ _ titled info in
     let linked = makes_then _ with_links c.args.context.now c.if-settings-2.context c.resolve_links.new.context _ _ informed c.in_ok-linked.ensures in
     makes_then _ with_transitions c.args.context.now c.resolve_links.new.context c.transitions.new.context _ _ linked c.in_ok-after.ensures

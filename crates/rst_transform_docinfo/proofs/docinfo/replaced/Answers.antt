@@ -18,7 +18,7 @@ loop-node-preserved c = record {
   taken =
       c.in_ok-add_node.ensures.gathered ∙ ap (λ (w : Context). with_field_node w.first_number c.in-Some.node (so_far c.loop-node.bibliography c.loop-node.context.reports.items)) c.loop-node.invariant.rest
       ∙ ap (with_field_node c.args.context.now.first_number c.in-Some.node) c.loop-node.invariant.taken
-      ∙ sym (gathered_more c.args.context.now.first_number (none_yet c.args.context.now.reports.items) c.loop-node.yielded c.in-Some.node);
+      ∙ sym (gathered_more c.args.context.now.first_number (none_yet c.args.parts c.args.context.now.reports.items) c.loop-node.yielded c.in-Some.node);
   rest = c.in_ok-add_node.ensures.rest ∙ ap (λ (w : Context). record w { reports = c.add_node.new.context.reports }) c.loop-node.invariant.rest;
 }
 
@@ -28,5 +28,5 @@ returns-clause-nodes c =
     c.loop-node.yielded c.loop-node.node-iterator c.loop-node.yielded_by c.next.result c.next.new.self c.in-None.is c.next.ensures.steps in
     let all : c.loop-node.yielded ≡ nodes_of c.in-Element.children = sym (map-id c.loop-node.yielded) ∙ end.0 ∙ c.into_list-node-items.ensures.nodes in
     subst (λ (nodes : List Node). IfOk c.with_names.result (λ (all : Vec Node Global). all.items ≡ nodes))
-    (ap (first_named c.in-Element.attrs) (c.in_ok-nodes.ensures ∙ ap (docinfo_nodes c.in-Element.line) (c.loop-node.invariant.taken ∙ ap (gathered c.args.context.now.first_number (none_yet c.args.context.now.reports.items)) all))
-    ∙ sym (ap (λ n. (replaced c.args.context.now.first_number c.args.context.now.reports.items n).0) c.in-Element.is)) c.with_names.ensures
+    (ap (first_named c.in-Element.attrs) (c.in_ok-nodes.ensures ∙ ap (docinfo_nodes c.in-Element.line) (c.loop-node.invariant.taken ∙ ap (gathered c.args.context.now.first_number (none_yet c.args.parts c.args.context.now.reports.items)) all))
+    ∙ sym (ap (λ n. (replaced c.args.parts c.args.context.now.first_number c.args.context.now.reports.items n).0) c.in-Element.is)) c.with_names.ensures

@@ -20,14 +20,14 @@ returns-clause-nodes c =
     let put : c.append-2.new.self.items ≡ take c.title_count-first.result c.remove.new.self.items ++ (c.in_ok-made.made.items ++ drop c.title_count-first.result c.remove.new.self.items) =
     c.in_ok-append-2.ensures.items ∙ ap₂ (λ xs ys. xs ++ ys) first_nodes c.in_ok-rest.ensures.tail ∙ append_assoc (take c.title_count-first.result c.remove.new.self.items) c.in_ok-made.made.items (drop c.title_count-first.result c.remove.new.self.items) in
     c.of-2.ensures
-    ∙ ap forest_of (list_replaced c.args.context.now.first_number c.args.context.now.reports.items c.into_list-nodes.result.items c.remove.new.self.items c.in_ok-made.made.items c.append-2.new.self.items c.list_place-place.result
+    ∙ ap forest_of (list_replaced c.args.parts c.args.context.now.first_number c.args.context.now.reports.items c.into_list-nodes.result.items c.remove.new.self.items c.in_ok-made.made.items c.append-2.new.self.items c.list_place-place.result
     c.title_count-first.result c.remove.result list there c.remove.ensures.items c.in_ok-made.ensures.nodes (c.title_count-first.ensures ∙ ap (prefix_len is_title) c.deref-3.ensures.value) put)
-    ∙ ap (λ xs. forest_of (nodes_with_docinfo c.args.context.now.first_number c.args.context.now.reports.items (leading_list xs) xs).0) c.into_list-nodes.ensures.nodes
+    ∙ ap (λ xs. forest_of (nodes_with_docinfo c.args.parts c.args.context.now.first_number c.args.context.now.reports.items (leading_list xs) xs).0) c.into_list-nodes.ensures.nodes
 
 pub returns-clause-reports : goal.returns-clause-reports
 returns-clause-reports c =
     let there : c.list_place-place.result ≡ list_place c.into_list-nodes.result.items = c.list_place-place.ensures ∙ ap list_place c.deref.ensures.value in
     let list = list_there c.into_list-nodes.result.items c.list_place-place.result c.remove.result there
     (subst (λ xs. is_list (slice_get xs c.list_place-place.result) ≡ true) c.deref-2.ensures.value (sym c.is_list_at.ensures ∙ c.if-not-is_list_at.false)) c.remove.ensures.value in
-    c.in_ok-made.ensures.reports ∙ sym (ap (λ o. (nodes_with_docinfo c.args.context.now.first_number c.args.context.now.reports.items o c.into_list-nodes.result.items).1) list)
-    ∙ ap (λ xs. (nodes_with_docinfo c.args.context.now.first_number c.args.context.now.reports.items (leading_list xs) xs).1) c.into_list-nodes.ensures.nodes
+    c.in_ok-made.ensures.reports ∙ sym (ap (λ o. (nodes_with_docinfo c.args.parts c.args.context.now.first_number c.args.context.now.reports.items o c.into_list-nodes.result.items).1) list)
+    ∙ ap (λ xs. (nodes_with_docinfo c.args.parts c.args.context.now.first_number c.args.context.now.reports.items (leading_list xs) xs).1) c.into_list-nodes.ensures.nodes

@@ -7,6 +7,8 @@ unfolding rst_transform_docinfo
 returns c = record {
   three = refl;
   no_class = refl;
+  first_node_of_a_name = refl;
+  whole_name = refl;
   address = refl;
   not_in_form = refl;
   two_paragraphs = refl;

@@ -5,4 +5,4 @@ use Rattle.rst_transform_laws.proofs.TransformDocinfo.{docinfo_held}
 use Rattle.rst_transform_laws.proofs.laws.docinfo_adds_little.Goals as goal
 
 pub returns : goal.returns
-returns c = λ document known. (docinfo_held any Anything any_suited (height document.children) document known (document_any document) (known_any known)).0.0.0
+returns c = λ parts document known. (docinfo_held any Anything any_suited parts (height document.children) document known (document_any document) (known_any known)).0.0.0

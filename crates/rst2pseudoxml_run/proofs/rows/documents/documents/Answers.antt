@@ -7,4 +7,5 @@ unfolding rst2pseudoxml_run
 returns c = record {
   empty = refl;
   one_line = refl;
+  json = refl;
 }

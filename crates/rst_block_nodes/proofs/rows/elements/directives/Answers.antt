@@ -7,9 +7,13 @@ unfolding rst_block_nodes
 returns c = record {
   tags = refl;
   options = refl;
+  container = refl;
   class_of_a_title = refl;
   classes_of_titles = refl;
   class_of_the_options = refl;
   code = refl;
   language_and_classes = refl;
+  raw = refl;
+  rubric = refl;
+  parsed_literal = refl;
 }

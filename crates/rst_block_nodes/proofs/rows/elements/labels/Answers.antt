@@ -12,6 +12,7 @@ returns c = record {
   citation = refl;
   to_a_name = refl;
   to_a_uri = refl;
+  to_an_address = refl;
   internal = refl;
   substitution = refl;
 }

@@ -6,6 +6,7 @@ pub returns : goal.returns
 unfolding rst_block_nodes
 returns c = record {
   roles = refl;
+  further_roles = refl;
   references = refl;
   embedded = refl;
   anonymous = refl;

@@ -1,15 +1,13 @@
-use Rattle.std.proofs.Common.{rules, tests, ◌≡◌, ◌-◌, ◌≤◌, ◌∙◌, true, false, IfOk, cond, length, take, sym, ap, subst, arith}
+use Rattle.std.proofs.Common.{◌≡◌, ◌-◌, ◌≤◌, ◌∙◌, true, IfOk, cond, length, take, sym, ap, subst, arith}
 use Rattle.std.specs.Cow.{cow_str_bytes}
-use Rattle.std.specs.List.{list_any}
 use Rattle.std.specs.Str.{chars}
-use Rattle.std.proofs.lemmas.Iterator.{YieldsList-from_slice}
-use Rattle.std.proofs.lemmas.Iterator.Search.{any_from_yields_List}
 use Rattle.std.proofs.lemmas.List.{length-drop, length-take-le}
-use Rattle.rst_text.specs.Characters.{is_white, Text, without_white}
+use Rattle.rst_text.specs.Characters.{Text, without_white}
 use Rattle.rst_text.specs.Escapes.{unescaped}
 use Rattle.rst_inline.specs.Embedded.{is_alias}
+use Rattle.rst_inline.specs.Mail.{mailed}
 use Rattle.rst_inline.specs.Parts.{part}
-use Rattle.rst_inline.proofs.EmbeddedLemmas.{alias-some, alias-part, dark-unescaped}
+use Rattle.rst_inline.proofs.EmbeddedLemmas.{alias-some, alias-part}
 use Rattle.rst_inline.proofs.written.Written.meant.Goals as goal
 
 pub overflow_sub-high : goal.overflow_sub-high
@@ -26,19 +24,10 @@ overflow_sub-high c =
 pub returns-then-is_alias : goal.returns-then-is_alias
 returns-then-is_alias c =
     let t = c.args.self.now.characters.items in
+    let parts = c.args.self.now.parts in
     let u = part t c.args.low c.args.high in
     let enclosed = c.part-enclosed.ensures ∙ ap (λ (t : Text). part t c.args.low c.args.high) c.deref.ensures.value in
     let alias : is_alias u ≡ true = ap is_alias (sym enclosed) ∙ sym c.is_alias.ensures ∙ c.if-is_alias.true in
     let is = ap unescaped (alias-part t c.args.low c.args.high c.requires (alias-some u alias))
-    ∙ sym (ap (λ b. cond b (unescaped (part u 0 (length u - 1))) (without_white (unescaped u))) alias) in
+    ∙ sym (ap (λ b. cond b (unescaped (part u 0 (length u - 1))) (mailed parts.mail (without_white (unescaped u)))) alias) in
     subst (λ m. IfOk c.unescaped.result (λ meaning. chars (cow_str_bytes meaning) ≡ m)) is c.unescaped.ensures
-
-pub returns-then-not-any : goal.returns-then-not-any
-returns-then-not-any c =
-    let t = c.args.self.now.characters.items in
-    let u = part t c.args.low c.args.high in
-    let enclosed = c.part-enclosed.ensures ∙ ap (λ (t : Text). part t c.args.low c.args.high) c.deref.ensures.value in
-    let alias : is_alias u ≡ false = ap is_alias (sym enclosed) ∙ sym c.is_alias.ensures ∙ c.if-is_alias.false in
-    let dark : list_any is_white u ≡ false = ap (list_any is_white) (sym enclosed) ∙ sym (any_from_yields_List is_white c.any.new.self _ c.any.result c.any.ensures.ran (YieldsList-from_slice c.part-enclosed.result.now cc) (λ x b q k. search (rules, tests))) ∙ c.if-not-any.true in
-    let is = dark-unescaped u dark ∙ sym (ap (λ b. cond b (unescaped (part u 0 (length u - 1))) (without_white (unescaped u))) alias) in
-    subst (λ m. IfOk c.unescaped-then-not-any.result (λ meaning. chars (cow_str_bytes meaning) ≡ m)) is c.unescaped-then-not-any.ensures

@@ -1,0 +1,10 @@
+use Rattle.std.proofs.Common.{refl}
+use Rattle.rst2pseudoxml_run.proofs.Computing.{rst2pseudoxml_run}
+use Rattle.rst2pseudoxml_run.proofs.rows.wider.roles.Goals as goal
+
+pub returns : goal.returns
+unfolding rst2pseudoxml_run
+returns c = record {
+  of_requests_for_comments = refl;
+  behind_the_text = refl;
+}

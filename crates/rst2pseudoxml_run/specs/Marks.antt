@@ -1,0 +1,51 @@
+-- What a text must hold for a part of the wider profile to make a difference in it. Texts are in bytes.
+use Rattle.std.specs.Prelude.{ℕ, Bool, ◌&&◌, ◌||◌, ◌==◌, ◌-◌, List, drop, length, slice_index, take}
+use Rattle.std.specs.Char.{is_ascii_whitespace}
+use Rattle.std.specs.List.{after_last, list_any, slice_split, suffix_len, zip}
+use Rattle.rst_inline.specs.Roles.{is_wider_role}
+use Rattle.rst_inline_scan.specs.Mail.{holds_at_sign}
+use Rattle.rst_markup_directives.specs.Kind.{is_wider_directive}
+use Rattle.rst_settings.specs.declared.Parts.{Parts}
+
+-- the pieces between colons
+abbrev pub by_colons : List ℕ → List (List ℕ)
+by_colons text = slice_split (λ b. b == 58) text
+
+-- the mark of `marks`: a colon stands directly before a backquote
+abbrev pub holds_role_end : List ℕ → Bool
+holds_role_end text = list_any (λ piece. slice_index piece 0 == 96) (drop 1 (by_colons text))
+
+-- the mark of `roles`: what stands between two colons, or before or behind all of them, is the name of a wider role
+abbrev pub holds_wider_role : List ℕ → Bool
+holds_wider_role text = list_any is_wider_role (by_colons text)
+
+-- the last word of a text, without the white space behind it
+abbrev pub last_word : List ℕ → List ℕ
+last_word text = after_last is_ascii_whitespace (take (length text - suffix_len is_ascii_whitespace text) text)
+
+-- that is the name of a wider directive
+abbrev pub ends_with_directive : List ℕ → Bool
+ends_with_directive text = is_wider_directive (last_word text)
+
+-- the mark of `directives`: such a word stands before a colon that is the last or has another directly behind it
+abbrev pub holds_wider_directive : List ℕ → Bool
+holds_wider_directive text = let pieces = by_colons text in list_any (λ pair. length pair.1 == 0 && ends_with_directive pair.0) (zip pieces (drop 1 pieces))
+
+-- the mark of `keywords`: a dollar sign stands in it
+abbrev pub holds_dollar_sign : List ℕ → Bool
+holds_dollar_sign text = list_any (λ b. b == 36) text
+
+-- any of the marks
+abbrev pub holds_mark : List ℕ → Bool
+holds_mark text = holds_role_end text || (holds_at_sign text || (holds_wider_role text || (holds_wider_directive text || holds_dollar_sign text)))
+
+-- The parts that hold in a text: those that are asked for and whose mark the text holds. The part `unmarked` has no mark: it holds where it is asked for.
+abbrev pub parts_in : Parts → List ℕ → Parts
+parts_in asked text = record {
+  marks = asked.marks && holds_role_end text;
+  mail = asked.mail && holds_at_sign text;
+  roles = asked.roles && holds_wider_role text;
+  directives = asked.directives && holds_wider_directive text;
+  unmarked = asked.unmarked;
+  keywords = asked.keywords && holds_dollar_sign text;
+}

@@ -1,0 +1,84 @@
+//! The parts of the wider profile that hold in a text.
+ghost use Rattle.std.specs.Prelude.{◌≡◌, ◌-◌, ◌<◌, ◌≤◌, encode_utf8_all, length, not, slice_index, true};
+ghost use Rattle.std.specs.Char.{is_ascii_whitespace};
+ghost use Rattle.std.specs.List.{suffix_len};
+ghost use Rattle.std.specs.Str.{chars};
+ghost use Rattle.rst_inline_scan.specs.Mail as mail;
+ghost use Rattle.rst2pseudoxml_run.specs.Marks as spec;
+
+use rst_inline::is_wider_role;
+use rst_markup_directives::is_wider_directive;
+use rst_settings::Parts;
+
+/// The parts of the wider profile that hold in a text: those that are asked for and whose mark it holds. It is searched for
+/// no other mark. The part `unmarked` has none.
+pub fn parts_in(asked: Parts, text: &str) -> Parts
+    ensures { result ≡ spec.parts_in asked (encode_utf8_all (chars text.now)) }
+{
+    Parts {
+        marks: asked.marks && holds_role_end(text),
+        mail: asked.mail && holds_at_sign(text),
+        roles: asked.roles && holds_wider_role(text),
+        directives: asked.directives && holds_wider_directive(text),
+        unmarked: asked.unmarked,
+        keywords: asked.keywords && holds_dollar_sign(text),
+    }
+}
+
+/// Whether a colon stands directly before a backquote.
+fn holds_role_end(text: &str) -> bool
+    ensures { result ≡ spec.holds_role_end text.now }
+{
+    text.split(':').skip(1).any(|piece| piece.starts_with('`'))
+}
+
+/// Whether an at sign stands in a text.
+fn holds_at_sign(text: &str) -> bool
+    ensures { result ≡ mail.holds_at_sign text.now }
+{
+    text.as_bytes().contains(&b'@')
+}
+
+/// Whether what stands between two colons, or before or behind all of them, is the name of a wider role.
+fn holds_wider_role(text: &str) -> bool
+    ensures { result ≡ spec.holds_wider_role text.now }
+{
+    text.split(':').any(|piece| is_wider_role(piece))
+}
+
+/// Whether the name of a wider directive, white space behind it or not, stands before a colon that is the last or has another directly
+/// behind it.
+fn holds_wider_directive(text: &str) -> bool
+    ensures { result ≡ spec.holds_wider_directive text.now }
+{
+    let next = text.split(':').skip(1);
+    text.split(':').zip(next).any(|(before, next)| next.is_empty() && ends_with_directive(before))
+}
+
+/// Whether the last word of a text is the name of a wider directive.
+fn ends_with_directive(text: &str) -> bool
+    ensures { result ≡ spec.ends_with_directive text.now }
+{
+    let text = text.trim_ascii_end();
+    is_wider_directive(&text[word_start(text.as_bytes())..])
+}
+
+/// The place behind the last white character of ASCII, or the beginning.
+fn word_start(text: &[u8]) -> usize
+    ensures value { result ≡ length text.now - suffix_len (λ b. not (is_ascii_whitespace b)) text.now }
+    ensures within { result ≤ length text.now }
+    ensures white { 0 < result → is_ascii_whitespace (slice_index text.now (result - 1)) ≡ true }
+{
+    let mut start = text.len();
+    while start > 0 && !text[start - 1].is_ascii_whitespace() {
+        start -= 1;
+    }
+    start
+}
+
+/// Whether a dollar sign stands in a text.
+fn holds_dollar_sign(text: &str) -> bool
+    ensures { result ≡ spec.holds_dollar_sign text.now }
+{
+    text.as_bytes().contains(&b'$')
+}

@@ -1,0 +1,38 @@
+use Rattle.std.proofs.Common.{◌≡◌, ⊎_elim, ◌+◌, Some, None, true, false, subst, arith}
+use Rattle.std.proofs.lemmas.Bool.{cases_lt}
+use Rattle.rst_text.proofs.PlacesLemmas.{NoneFrom-within}
+use Rattle.rst_inline_scan.specs.Mail.{is_address_at, ends_host}
+use Rattle.rst_inline_scan.proofs.MailLemmas.{host_end-is}
+use Rattle.rst_inline_scan.proofs.mail.host_end.Goals as goal
+
+pub loop-end-init : goal.loop-end-init
+loop-end-init c = record { upto = omega arith; none = λ k low high. absurd (omega arith) }
+
+pub loop-end-preserved : goal.loop-end-preserved
+loop-end-preserved c =
+    let t = c.args.text.now in
+    let here : ends_host t c.loop-end.end ≡ false = cc in
+    let upto = c.loop-end.invariant.upto in
+    record {
+      upto = omega arith;
+      none = λ k low high. ⊎_elim
+          (λ past. c.loop-end.invariant.none k (omega arith) high)
+          (λ last. subst (λ n. ends_host t n ≡ false) (let same : c.loop-end.end ≡ k = omega arith in same) here)
+          (cases_lt c.loop-end.end k);
+    }
+
+pub returns-then-ends_host : goal.returns-then-ends_host
+returns-then-ends_host c =
+    let t = c.args.text.now in
+    let begins : is_address_at t c.args.start ≡ true = cc in
+    let here : ends_host t c.loop-end.end ≡ true = cc in
+    let upto = c.loop-end.invariant.upto in
+    host_end-is t c.args.start c.host_stop-stop.result (Some c.loop-end.end) begins c.host_stop-stop.ensures.exact (omega arith, omega arith, here, c.loop-end.invariant.none)
+
+pub returns : goal.returns
+returns c =
+    let t = c.args.text.now in
+    let begins : is_address_at t c.args.start ≡ true = cc in
+    let stop = c.host_stop-stop.result in
+    host_end-is t c.args.start stop None begins c.host_stop-stop.ensures.exact
+    (NoneFrom-within (ends_host t) (c.loop-end.end + 1) (stop + 2) (c.args.start + 2) (stop + 2) (omega arith) (omega arith) c.loop-end.invariant.none)
