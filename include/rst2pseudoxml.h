@@ -65,9 +65,8 @@ typedef struct rst_result {
 /* RST_ABI_VERSION of the library. */
 uint32_t rst_abi_version(void);
 
-/* What the program writes for a text to standard output (the tree) and standard error (the messages), or would write if it had
-   the profile of the options. `source` is the name that both show: the
-   program's own for standard input is `<stdin>`. If a message halts the run there is no tree, and the messages end with the line that says so. */
+/* What the program writes for a text to standard output (the tree) and standard error (the messages), or would write if it had the profile of
+   the options. `source` is the name that both show: the program's own for standard input is `<stdin>`. If a message halts the run there is no tree, and the messages end with the line that says so. */
 void rst_print(const uint8_t *text, size_t text_length, const uint8_t *source, size_t source_length, const rst_options *options,
                uint8_t *tree, size_t tree_room, uint8_t *messages, size_t messages_room, rst_result *result);
 

@@ -19,7 +19,8 @@ TOKEN = re.compile(r'"(?:[^"\\]|\\.)*"|\+\+|[\w.]+|\S')
 KEYWORDS = {"if", "then", "else", "let", "in", "record"}
 NAME, NUMBER = "\1", "\2"  # what a text has from elsewhere
 GAPS = {NAME: ("X", "Y", "Z"), NUMBER: ("N", "M", "K")}
-SENTENCE = re.compile(r'[A-Za-z].*\s.*[.:)]|[A-Z].*\s.*[^"\1]', re.S)
+SENTENCE = re.compile(r'(?:"\x01"|[A-Za-z]).*\s.*[.:)]|[A-Z].*\s.*[^"\1]', re.S)
+PART = ""  # stands for the name of what is a part of a text alone
 OTHERS = {"Docutils System Messages"}  # a title
 
 
@@ -45,7 +46,7 @@ class Definitions:
     """The definitions of a crate: of each name its clauses, each with its parameters, the chains of its right side, and whether a text is in it."""
 
     def __init__(self, folder):
-        self.clauses, self.parts, self.found = {}, set(), {}
+        self.clauses, self.parts, self.found = {}, {PART}, {}
         for path in sorted(folder.rglob("*.antt")):
             code = re.sub(r"^ *--.*\n", "", path.read_text(encoding="utf-8"), flags=re.M)
             for _, name, parameters, body in CLAUSE.findall(code):
@@ -77,7 +78,9 @@ class Definitions:
             return lines_of(rest[0])
         if isinstance(head, list):
             return self.keep(owner, head, values, callers) if rest or len(head) != 1 else self.joined(owner, head[0], values, callers)
-        given = [self.keep(owner, one, values, callers) if isinstance(one, list) else values.get(one, [NAME]) for one in rest]
+        # What a definition with a text is given is a part of its text.
+        keeper = PART if any(has_text for _, _, has_text in self.clauses.get(head, [])) else owner
+        given = [self.keep(keeper, one, values, callers) if isinstance(one, list) else values.get(one, [NAME]) for one in rest]
         if head == "decimal":
             return [NUMBER]
         texts = [] if rest else values.get(head, [])

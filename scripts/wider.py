@@ -423,6 +423,37 @@ Instead, use the "role" directive to create a new role with an associated format
         "",
     ),
     (
+        "markup in the name of a field",
+        ":a *b*: c\n",
+        """\
+<document source="<stdin>">
+    <docinfo>
+        <field classes="a">
+            <field_name>
+                a 
+                <emphasis>
+                    b
+            <field_body>
+                <paragraph>
+                    c
+""",
+        "",
+    ),
+    (
+        "markup in the name of a bibliographic field",
+        ":Date *of print*: today\n:*Author* `and`_ more: Ann\n\n.. _and: x\n",
+        """\
+<document source="<stdin>">
+    <docinfo>
+        <date>
+            today
+        <author>
+            Ann
+    <target ids="and" names="and" refuri="x">
+""",
+        "",
+    ),
+    (
         "keywords of RCS",
         ":Date: $Date: 2005/12/30 10:11:12 $\n:Revision: $Revision: 4231 $\n:Version: $RCSfile: a.txt,v $\n",
         """\
@@ -467,8 +498,8 @@ Instead, use the "role" directive to create a new role with an associated format
 ]
 
 SAME = [
-    ("a backquote after a space", ":a `b` c: d\n"),
-    ("an escaped colon", ":a\\:`b`: d\n"),
+    ("a backquote after a space", "x\n\n:a `b` c: d\n"),
+    ("an escaped colon", "x\n\n:a\\:`b`: d\n"),
     ("a colon inside a name", ":a:b: c\n"),
     ("a role behind a word", "a :sub:`b`: c\n"),
     ("at signs alone", "a @ b@c d@ @e\n"),
@@ -476,4 +507,5 @@ SAME = [
     ("the name of a directive before a literal block", "raw::\n\n   a\n"),
     ("a keyword in a paragraph", "a $Id: b $\n"),
     ("a blank line before the content", ".. note:: a\n\n   :b: c\n"),
+    ("the name of a field that is one node", ":*Date*: a\n:``b c``: d\n"),
 ]

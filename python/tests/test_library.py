@@ -216,6 +216,7 @@ class WiderPage(unittest.TestCase):
     def test_examples(self):
         page = (cases.TOP / "docs/profile/wider.md").read_text(encoding="utf-8")
         examples = "\n".join(re.findall("```pycon\n(.*?)```", page, re.DOTALL))
+        examples = re.sub("(?m)^ +$", "<BLANKLINE>", examples)  # for a doctest, a line of spaces alone is the end of what is printed
         test = doctest.DocTestParser().get_doctest(examples, {}, "wider.md", None, None)
         self.assertGreater(len(test.examples), 2)
         said = []
