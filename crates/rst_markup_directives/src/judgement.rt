@@ -1,11 +1,14 @@
 //! Where directives are allowed, and with which content.
 ghost use Rattle.std.specs.Prelude.{◌≡◌};
+ghost use Rattle.rst_markup_directives.specs.Argument.{given_in};
 ghost use Rattle.rst_markup_directives.specs.Judgement as spec;
 ghost use Rattle.rst_markup_directives.specs.Options.{choices_in};
 
+use super::argument::Argument;
 use super::fault::{Detail, DirectiveFault};
 use super::found::Place;
 use super::kind::{Allowed, ContentKind, Kind};
+use super::option::OptionName;
 use super::options::Setting;
 
 /// The kind of a directive, if there is one and it is allowed there; or the fault.
@@ -23,16 +26,27 @@ pub(crate) fn permitted(kind: Option<Kind>, place: Place) -> Result<Kind, Direct
     }
 }
 
-/// The fault of an option that names a file.
-pub(crate) fn file_fault(options: &[Setting]) -> Option<DirectiveFault>
-    ensures { result ≡ spec.file_fault (choices_in options.now) }
+/// The fault of an option that names a file, or of a subtitle where there is no title.
+pub(crate) fn option_fault(argument: &Argument, options: &[Setting]) -> Option<DirectiveFault>
+    ensures { result ≡ spec.option_fault (given_in argument.now) (choices_in options.now) }
 {
-    for setting in options {
-        if setting.option.reads_file() {
-            return Some(DirectiveFault::Disabled);
-        }
+    if options.iter().any(|setting| setting.option.reads_file()) {
+        return Some(DirectiveFault::Disabled);
     }
-    None
+    match argument {
+        Argument::Title(_) => None,
+        _ if has_subtitle(options) => Some(DirectiveFault::LoneSubtitle),
+        _ => None,
+    }
+}
+
+/// Whether one of some options is a subtitle.
+fn has_subtitle(options: &[Setting]) -> bool
+    ensures { result ≡ spec.has_subtitle (choices_in options.now) }
+{
+    options
+        .iter()
+        .any(|setting| setting.option == OptionName::Subtitle)
 }
 
 /// The fault of a directive's content, which is empty or not, and maybe a single paragraph; or else of its place.
@@ -55,8 +69,10 @@ pub(crate) fn content_fault(
             Some(DirectiveFault::Inside(Detail::NotOneParagraph))
         }
         _ => match (kind.allowed, place) {
-            (Allowed::Sections, Place::Top) | (Allowed::Substitution, Place::Substitution) => None,
+            (Allowed::Sections | Allowed::Beside, Place::Top)
+            | (Allowed::Substitution, Place::Substitution) => None,
             (Allowed::Sections, _) => Some(DirectiveFault::TopicNotHere),
+            (Allowed::Beside, _) => Some(DirectiveFault::SidebarNotHere),
             (Allowed::Substitution, _) => Some(DirectiveFault::ReplaceNotHere),
             (Allowed::Nowhere, _) => Some(DirectiveFault::Disabled),
             _ => None,
