@@ -1,10 +1,8 @@
 -- Where directives are allowed, and with which content (Directives, 'Specific Admonitions', 'Generic Admonition',
 -- 'Topic', 'Sidebar', 'Image', 'Figure', 'Code', 'Replacement Text'; Markup Specification, 'Substitution Definitions').
-use Rattle.std.specs.Prelude.{Bool, true, false, not, ◌&&◌, List, Option, Some, None, Result, Ok, Err, if◌then◌else◌}
-use Rattle.std.specs.List.{list_any}
+use Rattle.std.specs.Prelude.{Bool, true, false, not, ◌&&◌, List, [], ◌∷◌, Option, Some, None, Result, Ok, Err, if◌then◌else◌}
 use Rattle.std.specs.Option.{option_or}
 use Rattle.rst_markup_directives.specs.Argument.{ArgumentMeaning, title}
-use Rattle.rst_markup_directives.specs.Kind.{is_subtitle, reads_file}
 use Rattle.rst_markup_directives.specs.Options.{OptionSetting}
 use Rattle.rst_markup_directives.specs.declared.fault.Detail.TheVariants.{ContentNotPermitted, NotOneParagraph}
 use Rattle.rst_markup_directives.specs.declared.fault.DirectiveFault.{DirectiveFault}
@@ -16,6 +14,8 @@ use Rattle.rst_markup_directives.specs.declared.kind.Allowed.TheVariants.{Sectio
 use Rattle.rst_markup_directives.specs.declared.kind.ContentKind.{ContentKind}
 use Rattle.rst_markup_directives.specs.declared.kind.ContentKind.TheVariants.{Empty, Paragraph, Caption}
 use Rattle.rst_markup_directives.specs.declared.kind.Kind.{Kind}
+use Rattle.rst_markup_directives.specs.declared.option.OptionName.{OptionName}
+use Rattle.rst_markup_directives.specs.declared.option.OptionName.TheVariants.{File, Subtitle, Url}
 
 -- the place is a substitution definition
 abbrev pub is_definition_place : Place → Bool
@@ -56,18 +56,22 @@ fault_by Empty empty paragraph = if empty then None else Some (Inside ContentNot
 fault_by Paragraph empty paragraph = if empty then Some NoContent else if paragraph then None else Some (Inside NotOneParagraph)
 fault_by _ empty paragraph = if empty then Some NoContent else None
 
--- one of some options is a subtitle
-abbrev pub has_subtitle : List OptionSetting → Bool
-has_subtitle options = list_any (λ setting. is_subtitle setting.0) options
-
--- a subtitle needs a title
-abbrev pub subtitle_fault : ArgumentMeaning → List OptionSetting → Option DirectiveFault
-subtitle_fault (title part) options = None
-subtitle_fault given options = if has_subtitle options then Some LoneSubtitle else None
+-- the argument is a title
+abbrev pub has_title : ArgumentMeaning → Bool
+has_title (title part) = true
+has_title _ = false
 
 -- no option may name a file, and none may be a subtitle where there is no title
-abbrev pub option_fault : ArgumentMeaning → List OptionSetting → Option DirectiveFault
-option_fault given options = if list_any (λ setting. reads_file setting.0) options then Some Disabled else subtitle_fault given options
+abbrev pub fault_of_option : Bool → OptionName → Option DirectiveFault
+fault_of_option titled File = Some Disabled
+fault_of_option titled Url = Some Disabled
+fault_of_option false Subtitle = Some LoneSubtitle
+fault_of_option titled _ = None
+
+-- the fault of the first option that has one
+abbrev pub option_fault : Bool → List OptionSetting → Option DirectiveFault
+option_fault titled [] = None
+option_fault titled (setting ∷ more) = option_or (fault_of_option titled setting.0) (option_fault titled more)
 
 -- the fault of a directive's content, which is empty or not, and maybe a single paragraph; or else of its place
 unfoldable pub content_fault : Kind → Bool → Place → Bool → Option DirectiveFault

@@ -106,11 +106,6 @@ reads_file File = true
 reads_file Url = true
 reads_file _ = false
 
--- the option is a subtitle
-abbrev pub is_subtitle : OptionName → Bool
-is_subtitle Subtitle = true
-is_subtitle _ = false
-
 -- none, `class` and `name`, `name` alone, those of a sidebar, those of raw data, those of a file's inclusion, those of an image, or these and those of a
 -- figure
 abbrev pub has_option : OptionSet → OptionName → Bool

@@ -26,27 +26,19 @@ pub(crate) fn permitted(kind: Option<Kind>, place: Place) -> Result<Kind, Direct
     }
 }
 
-/// The fault of an option that names a file, or of a subtitle where there is no title.
+/// The fault of the first option that names a file, or is a subtitle where there is no title.
 pub(crate) fn option_fault(argument: &Argument, options: &[Setting]) -> Option<DirectiveFault>
-    ensures { result ≡ spec.option_fault (given_in argument.now) (choices_in options.now) }
+    ensures { result ≡ spec.option_fault (spec.has_title (given_in argument.now)) (choices_in options.now) }
 {
-    if options.iter().any(|setting| setting.option.reads_file()) {
-        return Some(DirectiveFault::Disabled);
+    let titled = matches!(argument, Argument::Title(_));
+    for setting in options {
+        match setting.option {
+            OptionName::File | OptionName::Url => return Some(DirectiveFault::Disabled),
+            OptionName::Subtitle if !titled => return Some(DirectiveFault::LoneSubtitle),
+            _ => {}
+        }
     }
-    match argument {
-        Argument::Title(_) => None,
-        _ if has_subtitle(options) => Some(DirectiveFault::LoneSubtitle),
-        _ => None,
-    }
-}
-
-/// Whether one of some options is a subtitle.
-fn has_subtitle(options: &[Setting]) -> bool
-    ensures { result ≡ spec.has_subtitle (choices_in options.now) }
-{
-    options
-        .iter()
-        .any(|setting| setting.option == OptionName::Subtitle)
+    None
 }
 
 /// The fault of a directive's content, which is empty or not, and maybe a single paragraph; or else of its place.
