@@ -339,10 +339,10 @@ fn titled_start(lines: &View<'_>, line: usize, found: &Found, pass: &mut Pass) -
     let numbers = &mut pass.numbers;
     let title = with_text(alloc, parts, Tag::Title, title_line, text, title_line, numbers)?;
     let more = subtitle(alloc, parts, options, line, &mut pass.numbers)?;
-    let node = directive_element(alloc, element, &found.argument, options, line)?;
+    let own = directive_element(alloc, element, &found.argument, options, line)?;
     let node = match element {
-        Tag::Admonition => with_title_class(alloc, node, &title.element)?,
-        _ => node,
+        Tag::Admonition => with_title_class(alloc, own, &title.element)?,
+        _ => own,
     };
     let mut nodes = alone(alloc, title.element)?;
     append(&mut nodes, more.heads)?;
