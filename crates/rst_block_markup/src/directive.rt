@@ -337,7 +337,15 @@ fn titled_start(lines: &View<'_>, line: usize, found: &Found, pass: &mut Pass) -
     let text = joined(alloc, lines, &mut pass.looks)?;
     let text = text.as_str();
     let numbers = &mut pass.numbers;
-    let title = with_text(alloc, parts, Tag::Title, title_line, text, title_line, numbers)?;
+    let title = with_text(
+        alloc,
+        parts,
+        Tag::Title,
+        title_line,
+        text,
+        title_line,
+        numbers,
+    )?;
     let more = subtitle(alloc, parts, options, line, &mut pass.numbers)?;
     let own = directive_element(alloc, element, &found.argument, options, line)?;
     let node = match element {

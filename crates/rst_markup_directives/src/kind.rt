@@ -233,9 +233,8 @@ impl OptionSet {
                 OptionName::Class | OptionName::Name | OptionName::Inclusion
             ),
             OptionSet::Image | OptionSet::Figure => match option {
-                OptionName::Subtitle | OptionName::File | OptionName::Url | OptionName::Inclusion => {
-                    false
-                }
+                OptionName::Subtitle | OptionName::File | OptionName::Url | OptionName::Inclusion =>
+                    { false }
                 OptionName::FigureWidth | OptionName::FigureClass => self == OptionSet::Figure,
                 _ => true,
             },
