@@ -405,6 +405,66 @@ Instead, use the "role" directive to create a new role with an associated format
         "",
     ),
     (
+        "sidebars",
+        ".. sidebar:: *a\n   :subtitle: b `c\n   :class: d\n   :name: N\n\n   x\n\n.. sidebar::\n\n   y\n",
+        """\
+<document source="<stdin>">
+    <sidebar classes="d" ids="n" names="n">
+        <title>
+            <problematic ids="problematic-1" refid="system-message-1">
+                *
+            a
+        <subtitle>
+            b 
+            <problematic ids="problematic-2" refid="system-message-2">
+                `
+            c
+        <system_message backrefs="problematic-1" ids="system-message-1" level="2" line="1" source="<stdin>" type="WARNING">
+            <paragraph>
+                Inline emphasis start-string without end-string.
+        <system_message backrefs="problematic-2" ids="system-message-2" level="2" line="1" source="<stdin>" type="WARNING">
+            <paragraph>
+                Inline interpreted text or phrase reference start-string without end-string.
+        <paragraph>
+            x
+    <sidebar>
+        <paragraph>
+            y
+""",
+        """\
+<stdin>:1: (WARNING/2) Inline emphasis start-string without end-string.
+<stdin>:1: (WARNING/2) Inline interpreted text or phrase reference start-string without end-string.
+""",
+    ),
+    (
+        "sidebars where none may be",
+        "- .. Sidebar:: a\n\n     b\n\n.. sidebar::\n   :subtitle: c\n\n   d\n",
+        """\
+<document source="<stdin>">
+    <bullet_list bullet="-">
+        <list_item>
+            <system_message level="3" line="1" source="<stdin>" type="ERROR">
+                <paragraph>
+                    The "Sidebar" directive may not be used within topics or body elements.
+                <literal_block xml:space="preserve">
+                    .. Sidebar:: a
+                    
+                       b
+    <system_message level="3" line="5" source="<stdin>" type="ERROR">
+        <paragraph>
+            The "subtitle" option may not be used without a title.
+        <literal_block xml:space="preserve">
+            .. sidebar::
+               :subtitle: c
+            
+               d
+""",
+        """\
+<stdin>:1: (ERROR/3) The "Sidebar" directive may not be used within topics or body elements.
+<stdin>:5: (ERROR/3) The "subtitle" option may not be used without a title.
+""",
+    ),
+    (
         "a blank line after a directive's first",
         ".. note::\n\n   :class: x\n\n   t\n",
         """\

@@ -5,7 +5,7 @@ use Rattle.std.specs.List.{AllByRecursion}
 use Rattle.rst_text.specs.Block.{Block, first_text, first_number, first_parts}
 use Rattle.rst_tree.specs.declared.node.Node.{Node}
 use Rattle.rst_tree.specs.declared.tag.Tag.{Tag}
-use Rattle.rst_tree.specs.declared.tag.Tag.TheVariants.{Attribution as AttributionTag, Title as TitleTag, FieldName, DefinitionListItem, Definition, Field, FieldBody}
+use Rattle.rst_tree.specs.declared.tag.Tag.TheVariants.{Attribution as AttributionTag, FieldName, DefinitionListItem, Definition, Field, FieldBody}
 use Rattle.rst_markup_blocks.specs.Attributions.{attribution_part}
 use Rattle.rst_markup_blocks.specs.Explicit.{explicit_of}
 use Rattle.rst_markup_blocks.specs.Partition.{Span}
@@ -25,12 +25,10 @@ use Rattle.rst_markup_tables.specs.Tiling.{grid_table}
 use Rattle.rst_markup_tables.specs.declared.results.Cell.{Cell}
 use Rattle.rst_markup_tables.specs.declared.results.TableResult.{TableResult}
 use Rattle.rst_markup_tables.specs.declared.results.TableResult.TheVariants.{Table, Malformed}
-use Rattle.rst_block_nodes.specs.Options.{directive_element}
 use Rattle.rst_block_nodes.specs.Sections.{filled}
 use Rattle.rst_block_state.specs.Constructs.{ItemMark, bullet_item, enumerated_item, definition_item, field_item, option_item, Construct, nothing, block_quote, item_of_list, doctest_block, bar_line, grid, simple, explicit_markup, transition, overlined_title, misplaced_lines, underlined_title, paragraph, Found}
-use Rattle.rst_block_state.specs.Directives.{content_nodes, called, titled_element, opened_by as opened_nodes, directive_by, definition_or_error}
+use Rattle.rst_block_state.specs.Directives.{content_nodes, called, titled_start, opened_by as opened_nodes, directive_by, definition_or_error}
 use Rattle.rst_block_state.specs.Inside.{quoted_by, quoted, part_of_item, content_blocks, directive_blocks, markup_blocks, opened_by, opened_of, cell_blocks, cells_by, cells_with}
-use Rattle.rst_block_state.specs.LineRuns.{number_or}
 use Rattle.rst_block_state.specs.Lists.{item_by, item_with}
 use Rattle.rst_block_state.specs.Markup.{markup_by}
 use Rattle.rst_block_state.specs.Nodes.{piece_by, piece_of, plainly}
@@ -152,10 +150,9 @@ module _ (all code later titles : Bool) (levels more : ℕ) (g h : Block → Num
   opened_alike : (given : ArgumentMeaning) (B : Block) (line : ℕ) (read : Read) (lines : List ℕ) (n : ℕ) → Inside (content_blocks B read.content)
       → Alike all (opened_nodes given c B line read lines n) (opened_nodes given d B line read lines n)
   opened_alike (title part) B line read lines n i =
-      let rest : Node × List Node → List Node → Numbered (List Node) = λ made nodes. just (filled (titled_element read.kind.element (directive_element read.kind.element read.argument read.options line) made.0) (made.0 ∷ made.1 ++ nodes) ∷ []) in
-      let X : Block = lines_in B part in
-      after_alike all (texted (first_parts X) TitleTag (number_or line X) (joined X) (number_or line X) n) (λ (made : Node × List Node). content_nodes c B read.content >>= rest made) (λ (made : Node × List Node). content_nodes d B read.content >>= rest made)
-      (λ made k. content_then B read.content (rest made) k i)
+      let rest : Node → List Node → Numbered (List Node) = λ start nodes. just (filled start nodes ∷ []) in
+      after_alike all (titled_start line read (lines_in B part) n) (λ start. content_nodes c B read.content >>= rest start) (λ start. content_nodes d B read.content >>= rest start)
+      (λ start k. content_then B read.content (rest start) k i)
   opened_alike (uri address) B line read lines n i = content_then B read.content _ n i
   opened_alike _ B line read lines n i = content_then B read.content _ n i
 

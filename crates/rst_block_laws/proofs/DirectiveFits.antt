@@ -1,5 +1,5 @@
 -- The nodes of directives and of substitution definitions have at most two levels more than the blocks inside, and their texts have a property.
-use Rattle.std.proofs.Common.{ℕ, ◌+◌, ◌≤◌, Bool, true, false, List, [], ◌∷◌, drop, length, take, Option, None, Some, arith, refl}
+use Rattle.std.proofs.Common.{ℕ, ◌+◌, ◌≤◌, Bool, true, false, List, [], ◌∷◌, ◌++◌, drop, length, take, Option, None, Some, arith, refl}
 use Rattle.std.specs.Prelude.{codes, encode_utf8_all}
 use Rattle.std.specs.List.{AllByRecursion, fold}
 use Rattle.std.specs.Option.{IfSome, is_some, option_or}
@@ -17,7 +17,7 @@ use Rattle.rst_tree.specs.declared.node.Node.TheVariants.{Element, Text as Words
 use Rattle.rst_tree.specs.declared.note.Level.{Level}
 use Rattle.rst_tree.specs.declared.note.Level.TheVariants.{Error, Warning}
 use Rattle.rst_tree.specs.declared.tag.Tag.{Tag}
-use Rattle.rst_tree.specs.declared.tag.Tag.TheVariants.{Admonition, Caption as CaptionTag, Comment, Figure as FigureTag, Image, Legend, Paragraph, SubstitutionDefinition, Title as TitleTag}
+use Rattle.rst_tree.specs.declared.tag.Tag.TheVariants.{Admonition, Caption as CaptionTag, Comment, Figure as FigureTag, Image, Legend, Paragraph, SubstitutionDefinition, Subtitle as SubtitleTag, Title as TitleTag}
 use Rattle.rst_tree.specs.Forest.{bare}
 use Rattle.rst_tree.specs.Nodes.{forest_of}
 use Rattle.rst_markup_blocks.specs.declared.forms.Invocation.{Invocation}
@@ -26,22 +26,22 @@ use Rattle.rst_markup_directives.specs.Argument.{ArgumentMeaning, title, uri, la
 use Rattle.rst_markup_directives.specs.declared.found.Content.{Content}
 use Rattle.rst_markup_directives.specs.declared.found.Place.TheVariants.{Substitution}
 use Rattle.rst_markup_directives.specs.declared.option.OptionName.{OptionName}
-use Rattle.rst_markup_directives.specs.declared.option.OptionName.TheVariants.{Name}
+use Rattle.rst_markup_directives.specs.declared.option.OptionName.TheVariants.{Name, Subtitle}
 use Rattle.rst_markup_directives.specs.Directive.{Read}
 use Rattle.rst_markup_directives.specs.Kind.{has_blocks, is_marked}
 use Rattle.rst_markup_directives.specs.Message.{fault_level, fault_text}
 use Rattle.rst_markup_directives.specs.Options.{OptionSetting}
 use Rattle.rst_markup_directives.specs.Value.{Meaning}
-use Rattle.rst_markup_directives.specs.Wrong.{Fault, disabled, inside as within, invalid_classes, no_content, not_in_substitution, unknown_directive}
+use Rattle.rst_markup_directives.specs.Wrong.{Fault, disabled, inside as within, invalid_classes, no_content, not_in_substitution, sidebar_not_here, unknown_directive}
 use Rattle.rst_block_nodes.specs.Admonitions.{title_class}
 use Rattle.rst_block_nodes.specs.Elements.{element_of, preserving, substitution_definition_node, text_nodes}
-use Rattle.rst_block_nodes.specs.Options.{body_attrs, given_attrs, image_node, link_attrs, link_chosen, link_meant, linked_by, literal_element, with_alt, value_meant, with_value_at}
-use Rattle.rst_block_nodes.specs.Readings.{read_nodes, read_notes}
+use Rattle.rst_block_nodes.specs.Options.{body_attrs, given_attrs, image_node, link_attrs, link_chosen, link_meant, linked_by, literal_element, subtitle_chosen, subtitle_meant, with_alt, value_meant, with_value_at}
+use Rattle.rst_block_nodes.specs.Readings.{read_nodes, read_notes, subtitled}
 use Rattle.rst_block_nodes.specs.Sections.{filled}
 use Rattle.rst_block_nodes.specs.Targets.{may_replace}
 use Rattle.rst_block_nodes.specs.Texts.{counting}
 use Rattle.rst_block_nodes.specs.Values.{normalized, unescaped}
-use Rattle.rst_block_state.specs.Directives.{closed_by, content_lines, content_nodes, definition_nodes, definition_or_error, directive_by, directive_nodes, element_by, faulty_name, first_paragraph, opened_by, right_nodes, substitution_nodes, text_nodes as text_of_directive, titled_element}
+use Rattle.rst_block_state.specs.Directives.{closed_by, content_lines, content_nodes, definition_nodes, definition_or_error, directive_by, directive_nodes, element_by, faulty_name, first_paragraph, opened_by, right_nodes, substitution_nodes, text_nodes as text_of_directive, titled_element, titled_start}
 use Rattle.rst_block_state.specs.Figures.{figure_nodes, legend_nodes, message_count}
 use Rattle.rst_block_state.specs.LineRuns.{number_or}
 use Rattle.rst_block_state.specs.Numbered.{just}
@@ -56,6 +56,7 @@ use Rattle.rst_block_laws.proofs.MessageFits.{read_notes_fit}
 use Rattle.rst_block_laws.proofs.Fits.{AllFit, Fits, counting_has, definition_fits, filled_fits, fit_forest, fit_more, fit_nodes, message_fits, open_fits}
 use Rattle.rst_block_laws.proofs.Gives.{Gives, after, give, gives}
 use Rattle.rst_tree_laws.proofs.Have.{with_attr_has, without_key_has}
+use Rattle.rst_block_laws.proofs.LineFits.{texted_fit}
 use Rattle.rst_block_laws.proofs.LineTexts.{excerpt_has, first_kept, joined_kept, lines_kept, source_has, spelled_has}
 use Rattle.rst_tree_laws.proofs.Lists.{all_append, all_drop, all_take}
 use Rattle.rst_tree_laws.proofs.Properties.{Suited, fixed_has, normalized_kept, unescaped_kept}
@@ -67,6 +68,7 @@ module _ (P : ℕ → Bool) (T : List ℕ → Type 0) (s : Suited P T) (c : With
   fault_has not_in_substitution name h k = quoted_has P T s (codes "Substitution definition \"") name (codes "\" may hold only image or replace.") refl refl k
   fault_has unknown_directive name h k = quoted_has P T s (codes "Unknown directive type \"") name (codes "\".") refl refl k
   fault_has (within w) name h k = s.append _ _ (quoted_has P T s (codes "Error in \"") name (codes "\" directive:\n") refl refl k) h
+  fault_has sidebar_not_here name h k = quoted_has P T s (codes "The \"") name (codes "\" directive may not be used within topics or body elements.") refl refl k
   fault_has no_content name h k = quoted_has P T s (codes "Content block expected for the \"") name (codes "\" directive; none found.") refl refl k
   fault_has (invalid_classes text) name h k =
       s.append _ _ (fixed_has P T s (codes "Invalid class attribute value for \"") refl) (s.append name _ k (s.append _ _ (fixed_has P T s (codes "\" directive: \"") refl) (s.append _ _ h (fixed_has P T s (codes "\".") refl))))
@@ -140,6 +142,41 @@ module _ (P : ℕ → Bool) (T : List ℕ → Type 0) (s : Suited P T) (c : With
   titled_fits Admonition t a line heading more any own h = open_fits T t _ line (k + 1) (k + 2) more any (cond_both (is_some (value_of Classes a)) a (with_attr Classes (title_class heading) a) (AttrsHave T) (λ e. own) (λ e. with_attr_has T Classes _ a tt own)) h (omega arith)
   titled_fits _ t a line heading more any own h = open_fits T t a line (k + 1) (k + 2) more any own h (omega arith)
 
+  titled_open : (tag t : Tag) (a : List Attr) (line : ℕ) (heading : Node) (more : List Node) → Open t → HoldsAny (filled (titled_element tag (Element t a bare line) heading) more)
+  titled_open Admonition t a line heading more any = any
+  titled_open _ t a line heading more any = any
+
+  -- a subtitle
+  meant_has : (option : OptionName) (m : Meaning) → NameHas P T s option m → IfSome (subtitle_meant option m) (Kept P)
+  meant_has Subtitle m h = h
+  meant_has _ m h = tt
+
+  subtitle_has : (choices : List OptionSetting) → AllByRecursion (ChoiceHas P T s) choices → IfSome (subtitle_chosen choices) (Kept P)
+  subtitle_has [] h = tt
+  subtitle_has (choice ∷ more) h = elim (subtitle_meant choice.0 choice.1) as (λ o. IfSome o (Kept P) → IfSome (option_or o (subtitle_chosen more)) (Kept P)) [
+    | None ↦ λ k. subtitle_has more h.1
+    | Some t ↦ λ k. k
+  ] (meant_has choice.0 choice.1 h.0.0)
+
+  subtitle_fits : (parts : Parts) (t : Option (List ℕ)) (line : ℕ) → IfSome t (Kept P) → Gives (λ made. AllFit T (k + 1) made.0 × AllFit T 3 made.1) (subtitled parts t line)
+  subtitle_fits parts None line h = give (tt, tt)
+  subtitle_fits parts (Some t) line h = after (gives (λ n. texted_fit P T s parts (k + 1) 3 (omega arith) (omega arith) SubtitleTag line t line n (λ c. refl) h)) (λ made own. give ((own.0, tt), own.1))
+
+  -- what a directive begins with that has a title
+  start_fits : (line : ℕ) (read : Read) (lines : Block) → BlockKept P lines → ReadHas P T s read → Gives (λ n. HoldsAny n × Fits T (k + 2) n) (titled_start line read lines)
+  start_fits line read lines b h =
+      let parts : Parts = first_parts lines in
+      let at : ℕ = number_or line lines in
+      after (gives (λ n. texted_fit P T s parts (k + 1) 3 (omega arith) (omega arith) TitleTag at (joined lines) at n (λ c. refl) (joined_kept P T s lines b)))
+      (λ made own. after (subtitle_fits parts (subtitle_chosen read.options) line (subtitle_has read.options h.1))
+      (λ more others.
+      let notes = fit_more T 3 (k + 1) (made.1 ++ more.1) (omega arith) (all_append (Fits T 3) made.1 more.1 own.1 others.1) in
+      let inside = (own.0, all_append (Fits T (k + 1)) more.0 (made.1 ++ more.1) others.0 notes) in
+      give (
+        titled_open read.kind.element read.kind.element _ line made.0 _ h.0,
+        titled_fits read.kind.element read.kind.element _ line made.0 _ h.0 (given_has read.argument _ (body_has read [] h tt)) inside,
+      )))
+
   first_fit : (ns : List Node) → AllFit T k ns → AllFit T k (first_paragraph ns)
   first_fit [] h = tt
   first_fit (Element Paragraph a content line ∷ ns) h = fit_nodes T k content (omega (arith, h.0.0), h.0.1.1)
@@ -164,11 +201,8 @@ module _ (P : ℕ → Bool) (T : List ℕ → Type 0) (s : Suited P T) (c : With
 
   opened_fits : (a : ArgumentMeaning) (B : Block) (line : ℕ) (read : Read) (lines : List ℕ) → BlockKept P B → ReadHas P T s read → T lines → Gives (AllFit T (k + 2)) (opened_by a c B line read lines)
   opened_fits (title part) B line read lines b h l =
-      let text : Block = lines_in B part in let kept : Kept P (joined text) = joined_kept P T s text (lines_kept P B part b) in
-      gives (λ n. (after (content_fit B read.content b) (λ nodes low.
-      let heading = open_fits T TitleTag (counting _) line 3 (k + 1) (read_nodes (first_parts text) (joined text) (number_or line text) n) (λ c. refl) (counting_has T _) (read_fit P T s (first_parts text) _ _ n kept) (omega arith) in
-      let more = all_append _ (read_notes (first_parts text) (joined text) (number_or line text) n) nodes (read_notes_fit P T s (k + 1) (omega arith) (first_parts text) _ _ n kept) (fit_more T k (k + 1) nodes (omega arith) low) in
-      give_one (titled_fits read.kind.element read.kind.element _ line _ _ h.0 (given_has read.argument _ (body_has read [] h tt)) (heading, more)))).at _)
+      after (start_fits line read (lines_in B part) (lines_kept P B part b) h)
+      (λ start own. after (content_fit B read.content b) (λ nodes low. give_one (filled_fits T start nodes k (k + 2) own.0 own.1 low (omega arith))))
   opened_fits (uri address) B line read lines b h l =
       let image = image_fits (encode_utf8_all address) read.options line true None h.1 (tt, tt) in
       after (content_fit B read.content b) (λ nodes low. give (figure_fit _ _ nodes (λ c. refl) (open_fits T FigureTag _ line 2 (k + 2) (_ ∷ []) (λ c. refl) (chosen_has _ (elim [ Name ↦ λ m h. tt | _ ↦ λ m h. tt ]) read.options [] h.1 tt) (image.0, tt) (omega arith))

@@ -1,7 +1,7 @@
 -- The element of a directive may hold any nodes, and what is read of its options consists of characters of its lines.
 use Rattle.std.proofs.Common.{ℕ, Bool, true, false, List, [], ◌∷◌, ◌++◌, drop, Option, None, Some, Result, Ok, Err, option_map, refl, rules}
 use Rattle.std.specs.Prelude.{◌&&◌, ◌||◌, MatchResult, encode_utf8_all, not, ok_or, option_and_then, if◌then◌else◌}
-use Rattle.std.specs.List.{AllByRecursion, list_any}
+use Rattle.std.specs.List.{AllByRecursion}
 use Rattle.std.specs.Option.{IfSome, option_or}
 use Rattle.std.specs.Result.{result_map_both}
 use Rattle.std.proofs.lemmas.Bool.{cond_both}
@@ -14,20 +14,22 @@ use Rattle.rst_markup_blocks.specs.declared.part.Part.{Part}
 use Rattle.rst_markup_directives.specs.Argument.{ArgumentMeaning, argument_of, classes, language, word_of}
 use Rattle.rst_markup_directives.specs.Characters.{Text, is_word}
 use Rattle.rst_markup_directives.specs.declared.fault.DirectiveFault.{DirectiveFault}
-use Rattle.rst_markup_directives.specs.declared.fault.DirectiveFault.TheVariants.{Disabled, NotInSubstitution}
+use Rattle.rst_markup_directives.specs.declared.fault.DirectiveFault.TheVariants.{NotInSubstitution}
 use Rattle.rst_markup_directives.specs.declared.found.Content.{Content}
 use Rattle.rst_markup_directives.specs.declared.found.Place.{Place}
 use Rattle.rst_markup_directives.specs.declared.found.Place.TheVariants.{Top, Substitution}
 use Rattle.rst_markup_directives.specs.declared.kind.Allowed.{Allowed}
-use Rattle.rst_markup_directives.specs.declared.kind.Allowed.TheVariants.{Sections, Substitution as SubstitutionAlone}
+use Rattle.rst_markup_directives.specs.declared.kind.Allowed.TheVariants.{Sections, Beside, Substitution as SubstitutionAlone}
 use Rattle.rst_markup_directives.specs.declared.kind.ArgumentKind.{ArgumentKind}
-use Rattle.rst_markup_directives.specs.declared.kind.ArgumentKind.TheVariants.{Absent, Classes, Language}
+use Rattle.rst_markup_directives.specs.declared.kind.ArgumentKind.TheVariants.{Absent, Classes, Language, OptionalTitle}
 use Rattle.rst_markup_directives.specs.declared.kind.ContentKind.{ContentKind}
 use Rattle.rst_markup_directives.specs.declared.kind.ContentKind.TheVariants.{Empty, Paragraph}
 use Rattle.rst_markup_directives.specs.declared.kind.Kind.{Kind}
+use Rattle.rst_markup_directives.specs.declared.option.OptionName.{OptionName}
+use Rattle.rst_markup_directives.specs.declared.option.OptionName.TheVariants.{File, Subtitle, Url}
 use Rattle.rst_markup_directives.specs.Directive.{Read, Outcome, classes_fault, directive_by_layout, directive_of, directive_outcome_at, found as right, judged_directive, of_block, read_at, read_block, read_parts, run_in, wrong}
-use Rattle.rst_markup_directives.specs.Judgement.{content_fault, fault_by, file_fault, is_substitutable, permitted, permitted_by, place_fault}
-use Rattle.rst_markup_directives.specs.Kind.{directive_named, directives, PartKind, if_on, is_on, is_text, reads_file}
+use Rattle.rst_markup_directives.specs.Judgement.{content_fault, fault_by, fault_of_option, has_title, is_substitutable, option_fault, permitted, permitted_by, place_fault}
+use Rattle.rst_markup_directives.specs.Kind.{directive_named, directives, PartKind, if_on, is_on, is_text}
 use Rattle.rst_markup_directives.specs.Layout.{layout_of}
 use Rattle.rst_markup_directives.specs.Lines.{first_run, joined_nonempty}
 use Rattle.rst_markup_directives.specs.Message.{wrong_text}
@@ -74,6 +76,7 @@ module _ (P : ℕ → Bool) (T : List ℕ → Type 0) (s : Suited P T) where
   argument_has Absent ts part h = tt
   argument_has Language [] part h = tt
   argument_has Language (t ∷ ts) part h = cond_both (is_among (normalized_white (joined_nonempty (t ∷ ts))) 32) (Err many_arguments) (Ok (language (Some _))) (Judged P T s ArgumentHas) (λ e. fixed_has P T s _ refl) (λ e. tt)
+  argument_has OptionalTitle [] part h = tt
   argument_has Classes [] part h = tt
   argument_has Classes (t ∷ ts) part h = nonempty_kept P T s (t ∷ ts) h
   argument_has _ [] part h = fixed_has P T s _ refl
@@ -117,15 +120,23 @@ module _ (P : ℕ → Bool) (T : List ℕ → Type 0) (s : Suited P T) where
 
   place_has : (allowed : Allowed) (place : Place) → IfSome (option_map fault_in (place_fault allowed place)) FaultHas
   place_has Sections Top = tt
+  place_has Beside Top = tt
   place_has SubstitutionAlone Substitution = tt
   place_has _ place = tt
-
-  file_has : (options : List OptionSetting) → IfSome (option_map fault_in (file_fault options)) FaultHas
-  file_has options = cond_both (list_any (λ setting. reads_file setting.0) options) (Some Disabled) None (λ o. IfSome (option_map fault_in o) FaultHas) (λ e. tt) (λ e. tt)
 
   either : (o p : Option DirectiveFault) → IfSome (option_map fault_in o) FaultHas → IfSome (option_map fault_in p) FaultHas → IfSome (option_map fault_in (option_or o p)) FaultHas
   either (Some fault) p h k = h
   either None p h k = k
+
+  option_has : (titled : Bool) (option : OptionName) → IfSome (option_map fault_in (fault_of_option titled option)) FaultHas
+  option_has titled File = tt
+  option_has titled Url = tt
+  option_has false Subtitle = tt
+  option_has _ _ = tt
+
+  options_have : (titled : Bool) (options : List OptionSetting) → IfSome (option_map fault_in (option_fault titled options)) FaultHas
+  options_have titled [] = tt
+  options_have titled (setting ∷ more) = either (fault_of_option titled setting.0) (option_fault titled more) (option_has titled setting.0) (options_have titled more)
 
   -- what holds of each right directive and of each wrong one
   pub called_has : (c : Within) (B : Block) (i : ℕ) (call : Invocation) (place : Place) → BlockKept P B → (R : Outcome → Type 0) → ((read : Read) → ReadHas read → R (right read)) → ((fault : Fault) (part : Part) → FaultHas fault → R (wrong fault part)) → R (called c B i call place)
@@ -133,7 +144,7 @@ module _ (P : ℕ → Bool) (T : List ℕ → Type 0) (s : Suited P T) where
   called_has c B i call place b R good bad =
       outcome _ _ (then_has BlockHas ReadHas FaultHas (judged_directive place _) _
       (then_has KindOpen BlockHas FaultHas (read_at B i call.block) _ (allowed_has _ _ (named_open _ _ c.code)) (λ kind any. block_has kind _ call.block _ any (lines_kept P B call.block b)))
-      (λ read. judged read (file_fault read.options) (option_or (fault_by read.kind.content _ _) (place_fault read.kind.allowed place)) (classes_fault read.argument) (file_has read.options)
+      (λ read. judged read (option_fault (has_title read.argument) read.options) (option_or (fault_by read.kind.content _ _) (place_fault read.kind.allowed place)) (classes_fault read.argument) (options_have (has_title read.argument) read.options)
       (either (fault_by read.kind.content _ _) (place_fault read.kind.allowed place) (content_has read.kind.content _ _) (place_has read.kind.allowed place)) (classes_have read.argument)))
     where
       judged : (read : Read) (o p : Option DirectiveFault) (q : Option Fault) → IfSome (option_map fault_in o) FaultHas → IfSome (option_map fault_in p) FaultHas → (ArgumentHas read.argument → IfSome q FaultHas) → BlockHas read

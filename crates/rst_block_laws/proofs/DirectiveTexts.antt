@@ -13,15 +13,15 @@ use Rattle.rst_markup_lines.specs.TextStart.{begins_with}
 use Rattle.rst_markup_directives.specs.Characters.{unindented}
 use Rattle.rst_markup_directives.specs.declared.kind.OptionSet.{OptionSet}
 use Rattle.rst_markup_directives.specs.declared.option.OptionName.{OptionName}
-use Rattle.rst_markup_directives.specs.declared.option.OptionName.TheVariants.{Alt, Target, Name, Inclusion}
+use Rattle.rst_markup_directives.specs.declared.option.OptionName.TheVariants.{Alt, Target, Name, Subtitle, Inclusion}
 use Rattle.rst_markup_directives.specs.Lines.{joined_nonempty}
 use Rattle.rst_markup_directives.specs.Message.{wrong_text}
 use Rattle.rst_markup_directives.specs.OptionName.{option_named}
 use Rattle.rst_markup_directives.specs.Options.{FieldText, Group, OptionSetting, choices_of, fields_of, first_again, first_unknown, groups, is_field_name, least_indentation, onto_choices, onto_fields, onto_groups, option_field, option_setting, settings_in}
 use Rattle.rst_markup_directives.specs.Target.{Destination, destination_in, is_phrase_reference, is_simple_reference, located, named, phrase_in, target_text, target_value}
-use Rattle.rst_markup_directives.specs.Value.{Meaning, linked, option_meaning}
+use Rattle.rst_markup_directives.specs.Value.{Meaning, linked, option_meaning, plain}
 use Rattle.rst_markup_directives.specs.Wrong.{Wrong, and_then, duplicate, unknown, unless}
-use Rattle.rst_block_nodes.specs.Options.{link_attrs, link_meant, value_meant}
+use Rattle.rst_block_nodes.specs.Options.{link_attrs, link_meant, subtitle_meant, value_meant}
 use Rattle.rst_tree_laws.specs.Texts.{AttrsHave, Kept, ValueHas, is_fixed}
 use Rattle.rst_block_laws.proofs.LineTexts.{all_range}
 use Rattle.rst_tree_laws.proofs.Lists.{all_drop, all_map, all_take}
@@ -83,9 +83,10 @@ module _ (P : ℕ → Bool) (T : List ℕ → Type 0) (s : Suited P T) where
 
   -- ---- options
 
-  -- a name that becomes a text; other values don't
+  -- a name and a subtitle that become texts; other values don't
   abbrev pub NameHas : OptionName → Meaning → Type 0
   NameHas Name m = ValueHas T true (value_meant m)
+  NameHas Subtitle m = IfSome (subtitle_meant Subtitle m) (Kept P)
   NameHas _ m = Unit {0}
 
   -- that name, or the attributes of a reference
@@ -110,6 +111,7 @@ module _ (P : ℕ → Bool) (T : List ℕ → Type 0) (s : Suited P T) where
   setting_has options (Some Target) t h =
       target_has (λ o. IfSome (option_map (λ (m : Meaning). (Target, m)) (option_map (λ to. linked to t) o)) ChoiceHas) t h tt
       (λ name k. (tt, (tt, (s.encoded t h, (s.encoded _ (name_kept P T s name k), tt))))) (λ uri. (tt, (s.encoded t h, (tt, tt))))
+  setting_has options (Some Subtitle) t h = cond_both (is_blank t) None (Some t) (λ o. IfSome (option_map (λ (m : Meaning). (Subtitle, m)) (option_map plain o)) ChoiceHas) (λ e. tt) (λ e. (h, tt))
   setting_has options (Some Alt) t h = (tt, tt)
   setting_has options (Some Inclusion) t h = (tt, tt)
   setting_has options (Some _) t h = paired _ _ _ (λ a. (tt, tt))

@@ -8,7 +8,7 @@ use Rattle.rst_markup_blocks.specs.declared.part.Part.{Part}
 use Rattle.rst_markup_directives.specs.Argument.{ArgumentMeaning, argument_of}
 use Rattle.rst_markup_directives.specs.Call.{part_of, content_of, is_empty}
 use Rattle.rst_markup_directives.specs.Directive.{Read, read_parts, directive_by_layout, read_block, run_in, directive_options, source_lines_at, is_late, of_block, directive_outcome_at, read_at, classes_fault, judged_directive, named_directive, directive_of}
-use Rattle.rst_markup_directives.specs.Judgement.{is_definition_place, is_substitutable, permitted, place_fault, fault_by, file_fault, content_fault}
+use Rattle.rst_markup_directives.specs.Judgement.{is_definition_place, is_substitutable, permitted, place_fault, fault_by, has_title, option_fault, content_fault}
 use Rattle.rst_markup_directives.specs.Kind.{is_paragraph}
 use Rattle.rst_markup_directives.specs.Layout.{layout_of}
 use Rattle.rst_markup_directives.specs.Options.{OptionSetting}
@@ -82,7 +82,7 @@ read_free (Ok n) B at block r w h =
 
 judged_free : (read : Result Read Fault) (place : Place) (p q : Bool) → ((r : Read) → read ≡ Ok r → IsFree r.kind) → and_then (judged_directive place p) read ≡ and_then (judged_directive place q) read
 judged_free (Err fault) place p q w = refl
-judged_free (Ok r) place p q w = ap (λ (fault : Option DirectiveFault). unless (option_or (option_map fault_in (option_or (file_fault r.options) fault)) (classes_fault r.argument)) (Ok r)) (w r refl (is_empty r.content) place p q)
+judged_free (Ok r) place p q w = ap (λ (fault : Option DirectiveFault). unless (option_or (option_map fault_in (option_or (option_fault (has_title r.argument) r.options) fault)) (classes_fault r.argument)) (Ok r)) (w r refl (is_empty r.content) place p q)
 
 -- for a directive other than a replacement text the flag doesn't count
 pub flag_free : (kind : Option Kind) (B : Block) (at : ℕ) (block : Part) (place : Place) (p q : Bool) → takes_paragraph kind ≡ false → directive_of kind B at block place p ≡ directive_of kind B at block place q

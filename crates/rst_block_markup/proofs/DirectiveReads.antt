@@ -1,10 +1,9 @@
 -- What a block gives once a directive in it is read.
 use Rattle.std.proofs.Common.{◌≡◌, ℕ, ◌+◌, ◌<◌, ◌≤◌, Bool, cond, drop, Result, arith, true, false, List, [], ◌∷◌, Some, None, Ok, refl, sym, ◌∙◌, ap}
 use Rattle.rst_settings.specs.declared.Parts.{Parts}
-use Rattle.rst_text.specs.Block.{Block, first_number, first_parts}
+use Rattle.rst_text.specs.Block.{Block, first_number}
 use Rattle.rst_text.specs.Looked.{capped}
 use Rattle.rst_tree.specs.declared.node.Node.{Node}
-use Rattle.rst_tree.specs.declared.tag.Tag.TheVariants.{Title as TitleTag}
 use Rattle.rst_markup_blocks.specs.declared.part.Part.{Part}
 use Rattle.rst_markup_directives.specs.Argument.{ArgumentMeaning, nothing, given_in}
 use Rattle.rst_markup_directives.specs.Directive.{Read}
@@ -15,16 +14,15 @@ use Rattle.rst_markup_directives.specs.declared.argument.Argument.TheVariants.{T
 use Rattle.rst_markup_directives.specs.declared.options.Setting.{Setting}
 use Rattle.rst_block_nodes.specs.Options.{directive_element, figure_element, image_element}
 use Rattle.rst_block_nodes.specs.Sections.{filled}
-use Rattle.rst_block_state.specs.Directives.{closed_nodes, content_nodes, titled_element, titled_nodes, plain_nodes, figure_of, opened_by}
+use Rattle.rst_block_state.specs.Directives.{closed_nodes, content_nodes, titled_nodes, titled_start, plain_nodes, figure_of, opened_by}
 use Rattle.rst_block_state.specs.Figures.{caption_error, figure_nodes}
 use Rattle.rst_block_state.specs.Inside.{content_blocks}
-use Rattle.rst_block_state.specs.LineRuns.{number_or}
 use Rattle.rst_block_markup.specs.MarkupSteps.{IsDirectiveRead, IsOpenedRead, made_of_content, marked_text, read_of_directive, reads_with}
 use Rattle.rst_block_markup.specs.declared.directive.Found.{Found}
 use Rattle.rst_block_state.specs.machine.Meanings.{within_at, reads_from, comes}
-use Rattle.rst_block_state.specs.Numbered.{then_read, just}
+use Rattle.rst_block_state.specs.Numbered.{then_read, ◌>>=◌, just}
 use Rattle.rst_block_state.specs.machine.OpenBlocks.{HasMoreAt, IsMoved}
-use Rattle.rst_block_state.specs.Texts.{joined, span_source, texted}
+use Rattle.rst_block_state.specs.Texts.{span_source}
 use Rattle.rst_block_state.specs.Within.{Within}
 use Rattle.rst_block_nodes.specs.declared.fault.BlockFault.{BlockFault}
 use Rattle.rst_block_state.specs.declared.open_block.OpenBlock.{OpenBlock}
@@ -32,7 +30,7 @@ use Rattle.rst_block_state.specs.declared.waits.Waits.TheVariants.{Element}
 use Rattle.rst_block_state.specs.declared.step.Step.{Step}
 use Rattle.rst_block_state.specs.declared.step.Step.TheVariants.{Next, Open}
 use Rattle.rst_block_state.specs.declared.texts.Pass.{Pass}
-use Rattle.rst_block_markup.proofs.MarkupReads.{content_comes, titled_then}
+use Rattle.rst_block_markup.proofs.MarkupReads.{content_comes}
 use Rattle.rst_block_markup.proofs.PartLemmas.{nodes_read, part_as}
 
 -- ---- a directive by its content and its argument
@@ -79,17 +77,13 @@ text_is {parts} {asked} {line} {at} {t} {u} literal read p l e = ap (λ x. marke
 -- ---- what comes
 
 pub titled_comes : (old new : OpenBlock) (B : Block) (read : Read) (lines : Block) (end n m line at : ℕ) (node : Node) (s : Step)
-    → then_read (λ (made : Node × List Node). just (filled (titled_element read.kind.element (directive_element read.kind.element read.argument read.options line) made.0) (made.0 ∷ made.1)))
-    (texted (first_parts lines) TitleTag (number_or line lines) (joined lines) (number_or line lines) n)
-    ≡ Ok (node, m)
-    → line ≡ at → s ≡ Open (Element node) read.content.first (Some read.content.second) → new.at ≡ end → IsMoved old new
+    → titled_start line read lines n ≡ Ok (node, m) → line ≡ at → s ≡ Open (Element node) read.content.first (Some read.content.second) → new.at ≡ end → IsMoved old new
     → comes new B s m ≡ reads_with old B (titled_nodes (within_at old.depth) B at read lines) end n
 titled_comes old new B read lines end n m line at node s h l e a moved =
     let c = within_at old.depth in
     ap (λ s. comes new B s m) e
     ∙ content_comes B (Element node) read.content (λ ns. filled node ns ∷ []) m moved a (λ ns. refl)
-    ∙ ap (then_read (λ ns. reads_from old B ns end))
-    (sym (titled_then (texted (first_parts lines) TitleTag (number_or line lines) (joined lines) (number_or line lines) n) (titled_element read.kind.element (directive_element read.kind.element read.argument read.options line)) (content_nodes c B read.content) node m h))
+    ∙ ap (λ r. then_read (λ ns. reads_from old B ns end) (then_read (λ start. content_nodes c B read.content >>= λ ns. just (filled start ns ∷ [])) r)) (sym h)
     ∙ ap (λ k. reads_with old B (titled_nodes c B k read lines) end n) l
 
 pub plain_comes : (old new : OpenBlock) (B : Block) (read : Read) (end n line at : ℕ) (node : Node) (slice : List Setting) (s : Step) → node ≡ directive_element read.kind.element read.argument (choices_in slice) line

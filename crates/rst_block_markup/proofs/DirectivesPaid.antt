@@ -19,7 +19,7 @@ use Rattle.rst_markup_directives.specs.declared.found.Directive.{Directive}
 use Rattle.rst_markup_directives.specs.declared.found.Directive.TheVariants.{Found as FoundDirective, Wrong as WrongDirective}
 use Rattle.rst_markup_directives.specs.declared.found.Place.{Place}
 use Rattle.rst_markup_directives.specs.declared.kind.ArgumentKind.{ArgumentKind}
-use Rattle.rst_markup_directives.specs.declared.kind.ArgumentKind.TheVariants.{Absent as NoArgument, Title as TitleArgument, Uri as UriArgument, Language as LanguageArgument, Formats as FormatsArgument, Classes as ClassesArgument}
+use Rattle.rst_markup_directives.specs.declared.kind.ArgumentKind.TheVariants.{Absent as NoArgument, Title as TitleArgument, OptionalTitle, Uri as UriArgument, Language as LanguageArgument, Formats as FormatsArgument, Classes as ClassesArgument}
 use Rattle.rst_markup_directives.specs.declared.kind.Kind.{Kind}
 use Rattle.rst_block_state.specs.Directives.{called}
 use Rattle.rst_block_state.specs.looks.Ledger.{argument_lines}
@@ -79,6 +79,8 @@ language_short n (t ∷ ts) = by (is_among words 32)
 argument_short : (n : ℕ) (argument : ArgumentKind) (ts : List Text) (block : Part) (to : ℕ) → to ≤ n → MayBeShort n (argument_of argument ts (part_of block 0 to))
 argument_short n NoArgument ts block to h = tt
 argument_short n TitleArgument ts block to h = title_short n ts (part_of block 0 to) (omega arith)
+argument_short n OptionalTitle [] block to h = tt
+argument_short n OptionalTitle (t ∷ ts) block to h = omega arith
 argument_short n UriArgument ts block to h = uri_short n ts
 argument_short n LanguageArgument ts block to h = language_short n ts
 argument_short n FormatsArgument [] block to h = tt

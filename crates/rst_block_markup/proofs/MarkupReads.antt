@@ -80,27 +80,6 @@ content_comes {old} {new} {at} B w content make n m e waits =
     ∙ sym (after_after (one n) (λ some. two >>= λ more. just (some ++ more)) (λ ns. reads_from old B (make ns) at))
     ∙ sym (after_after (content_nodes c B content n) (λ ns. just (make ns)) (λ ns. reads_from old B ns at))
 
--- ---- elements
-
-filled_filled : (e : Node) (some more : List Node) → filled (filled e some) more ≡ filled e (some ++ more)
-filled_filled (Element t a c l) some more =
-    ap (λ ns. Element t a (forest_of (ns ++ more)) l) (nodes_of-forest_of (nodes_of c ++ some))
-    ∙ ap (λ ns. Element t a (forest_of ns) l) (append_assoc (nodes_of c) some more)
-filled_filled (Text t) some more = refl
-
--- an element that holds a title so far is filled with the nodes that follow
-pub titled_then : (r : Result ((Node × List Node) × ℕ) ℕ) (E : Node → Node) (read : Numbered (List Node)) (node : Node) (m : ℕ)
-    → then_read (λ (made : Node × List Node). just (filled (E made.0) (made.0 ∷ made.1))) r ≡ Ok (node, m)
-    → then_read (λ (made : Node × List Node). read >>= λ ns. just (filled (E made.0) (made.0 ∷ made.1 ++ ns) ∷ [])) r ≡ (read >>= λ ns. just (filled node ns ∷ [])) m
-titled_then (Ok ((t, notes), k)) E read node m h =
-    let both : (filled (E t) (t ∷ notes), k) ≡ (node, m) = cc in
-    let e : filled (E t) (t ∷ notes) ≡ node = ap (λ (p : Node × ℕ). p.0) both in
-    let f : k ≡ m = ap (λ (p : Node × ℕ). p.1) both in
-    ap (λ j. (read >>= λ ns. just (filled (E t) (t ∷ notes ++ ns) ∷ [])) j) f
-    ∙ same_after (read m) (λ ns. just (filled (E t) (t ∷ notes ++ ns) ∷ [])) (λ ns. just (filled node ns ∷ []))
-    (λ ns j. ap (λ (x : Node). Ok (x ∷ [], j)) (sym (filled_filled (E t) (t ∷ notes) ns) ∙ ap (λ x. filled x ns) e))
-titled_then (Err line) E read node m h = cc
-
 -- ---- the run of explicit markup
 
 joins_no_list : (k : ListKind) (s : Span) → joining_after (joining_in k) explicit_markup s ≡ None

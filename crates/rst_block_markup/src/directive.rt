@@ -24,8 +24,8 @@ ghost use Rattle.rst_block_state.specs.Inside.{directive_blocks};
 use super::explicit::put;
 use super::single::is_single_paragraph;
 use rst_block_nodes::{
-    Texted, append, directive_element, figure, filled, image, literal_block, message, with_options,
-    with_text, with_title_class,
+    Texted, append, directive_element, figure, filled, image, literal_block, message, subtitle,
+    with_options, with_text, with_title_class,
 };
 use rst_block_state::{
     OpenBlock, Pass, Result, Step, Waits, alone, excerpt, first_line_or, inside, joined, number_at,
@@ -303,8 +303,7 @@ fn content_text(
     Ok(text)
 }
 
-/// An admonition or a topic: its title, the messages of that, and then its content. The title of an admonition gives its class,
-/// unless the options do.
+/// An admonition, a topic or a sidebar: its title, and then its content.
 fn titled_block(
     view: &View<'_>,
     level: &mut OpenBlock,
@@ -319,29 +318,45 @@ fn titled_block(
 {
     let line = number_at(view, level.at);
     let lines = inside(view, title);
-    let title_line = first_line_or(&lines, line);
-    let parts = parts_at(&lines, 0);
-    let text = joined(pass.alloc, &lines, &mut pass.looks)?;
+    let node = titled_start(&lines, line, found, pass)?;
+    Ok(opened(level, Waits::Element(node), found))
+}
+
+/// What a directive in a line begins with that has a title in these lines: the title, the subtitle that its options may give, and
+/// the messages on the texts of both. The title of an admonition gives its class, unless the options do.
+fn titled_start(lines: &View<'_>, line: usize, found: &Found, pass: &mut Pass) -> Result<Node>
+    ensures read { let read = read_of_directive found.now in
+        Gives (λ node. meaning.titled_start line read (block_of lines.now) pass.old.numbers ≡ Ok (node, pass.new.numbers)) result }
+    ensures looked { IfOk result (λ _. Looked 0 (length (block_of lines.now)) pass.old.looks pass.new.looks) }
+{
+    let alloc = pass.alloc;
+    let element = found.kind.element;
+    let options = found.options.as_slice();
+    let title_line = first_line_or(lines, line);
+    let parts = parts_at(lines, 0);
+    let text = joined(alloc, lines, &mut pass.looks)?;
+    let text = text.as_str();
+    let numbers = &mut pass.numbers;
     let title = with_text(
-        pass.alloc,
+        alloc,
         parts,
         Tag::Title,
         title_line,
-        text.as_str(),
+        text,
         title_line,
-        &mut pass.numbers,
+        numbers,
     )?;
-    let element = found.kind.element;
-    let options = found.options.as_slice();
-    let node = directive_element(pass.alloc, element, &found.argument, options, line)?;
+    let more = subtitle(alloc, parts, options, line, &mut pass.numbers)?;
+    let own = directive_element(alloc, element, &found.argument, options, line)?;
     let node = match element {
-        Tag::Admonition => with_title_class(pass.alloc, node, &title.element)?,
-        _ => node,
+        Tag::Admonition => with_title_class(alloc, own, &title.element)?,
+        _ => own,
     };
-    let mut nodes = alone(pass.alloc, title.element)?;
+    let mut nodes = alone(alloc, title.element)?;
+    append(&mut nodes, more.heads)?;
     append(&mut nodes, title.notes)?;
-    let node = filled(node, nodes)?;
-    Ok(opened(level, Waits::Element(node), found))
+    append(&mut nodes, more.notes)?;
+    Ok(filled(node, nodes)?)
 }
 
 /// A directive that is its content.

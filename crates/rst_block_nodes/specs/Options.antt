@@ -1,7 +1,8 @@
--- What the options of directives do to elements (Directives, 'Common Options', 'Image', 'Figure', 'Code', 'Rubric', 'Parsed
+-- What the options of directives do to elements (Directives, 'Common Options', 'Image', 'Figure', 'Sidebar', 'Code', 'Rubric', 'Parsed
 -- Literal Block', 'Raw Data Pass-Through', 'Container').
 use Rattle.std.specs.Prelude.{ℕ, Bool, if◌then◌else◌, List, [], ◌∷◌, ◌++◌, map, codes, Option, Some, None, option_map, encode_utf8_all}
 use Rattle.std.specs.Option.{option_or, option_to_list}
+use Rattle.rst_text.specs.Characters.{Text}
 use Rattle.rst_text.specs.Names.{name_of, normalized_white}
 use Rattle.rst_tree.specs.Attributes.{attr, value_of, with_attr, without_key}
 use Rattle.rst_tree.specs.Forest.{bare}
@@ -21,7 +22,7 @@ use Rattle.rst_markup_directives.specs.Value.{Meaning, plain, measured, numbered
 use Rattle.rst_markup_directives.specs.declared.measure.Alignment.{Alignment}
 use Rattle.rst_markup_directives.specs.declared.measure.Alignment.TheVariants.{Top, Middle, Bottom, Left, Center, Right}
 use Rattle.rst_markup_directives.specs.declared.option.OptionName.{OptionName}
-use Rattle.rst_markup_directives.specs.declared.option.OptionName.TheVariants.{Alt as AltOption, Height as HeightOption, Width as WidthOption, Scale as ScaleOption, Align as AlignOption, Class as ClassOption, Name as NameOption, FigureWidth, FigureClass}
+use Rattle.rst_markup_directives.specs.declared.option.OptionName.TheVariants.{Alt as AltOption, Height as HeightOption, Width as WidthOption, Scale as ScaleOption, Align as AlignOption, Class as ClassOption, Name as NameOption, FigureWidth, FigureClass, Subtitle}
 use Rattle.rst_block_nodes.specs.declared.settings.Holder.{Holder}
 use Rattle.rst_block_nodes.specs.declared.settings.Holder.TheVariants.{Image, FigureImage, Figure, Body}
 use Rattle.rst_block_nodes.specs.Elements.{element_of, preserving, text_nodes}
@@ -104,6 +105,18 @@ figure_element choices line = Element FigureTag (with_choices Figure choices [])
 -- the element of a directive with a body, still without content
 abbrev pub directive_element : Tag → ArgumentMeaning → List OptionSetting → ℕ → Node
 directive_element element given choices line = Element element (given_attrs given (body_attrs choices [])) bare line
+
+-- ---- subtitles
+
+-- the text of a choice, if it is a `subtitle`
+abbrev pub subtitle_meant : OptionName → Meaning → Option Text
+subtitle_meant Subtitle (plain text) = Some text
+subtitle_meant _ _ = None
+
+-- the text of the first `subtitle` among choices
+abbrev pub subtitle_chosen : List OptionSetting → Option Text
+subtitle_chosen [] = None
+subtitle_chosen (ch ∷ more) = option_or (subtitle_meant ch.0 ch.1) (subtitle_chosen more)
 
 -- ---- texts
 

@@ -1,16 +1,17 @@
 -- The nodes of a text with inline markup, and the messages on it, as functions of the text (Markup Specification, 'Inline Markup',
--- 'Definition Lists').
-use Rattle.std.specs.Prelude.{◌≡◌, ℕ, List, length, Ok}
+-- 'Definition Lists'; Directives, 'Sidebar').
+use Rattle.std.specs.Prelude.{◌≡◌, ℕ, List, [], ◌∷◌, length, Option, Some, None, Ok}
 use Rattle.rst_settings.specs.declared.Parts.{Parts}
 use Rattle.rst_tree.specs.Sends.{counted_on}
 use Rattle.rst_tree.specs.declared.node.Node.{Node}
 use Rattle.rst_tree.specs.declared.tag.Tag.{Tag}
+use Rattle.rst_tree.specs.declared.tag.Tag.TheVariants.{Subtitle}
 use Rattle.rst_inline_scan.specs.Reading.{pieces_of}
 use Rattle.rst_inline.specs.Results.{nodes_from, notes_of}
 use Rattle.rst_block_nodes.specs.declared.terms.Heads.{Heads}
 use Rattle.rst_block_nodes.specs.declared.texted.Texted.{Texted}
 use Rattle.rst_block_nodes.specs.Elements.{element_of}
-use Rattle.rst_block_nodes.specs.Numbered.{Numbered}
+use Rattle.rst_block_nodes.specs.Numbered.{Numbered, ◌>>=◌, just}
 use Rattle.rst_block_nodes.specs.Results.{HoldsText, HeadsText}
 use Rattle.rst_block_nodes.specs.Terms.{parts_of_pieces, groups_of, heads_of}
 use Rattle.rst_block_nodes.specs.Texts.{counting, messages_from}
@@ -36,6 +37,11 @@ abbrev pub texted : Parts → Tag → ℕ → List ℕ → ℕ → Numbered (Nod
 texted parts tag line t text_line = λ number.
     let notes = read_notes parts t text_line number in
     Ok ((texted_node parts tag line t text_line number, notes), counted_on number (length notes))
+
+-- the subtitle that a text is, which has this line, and the messages on the text; where there is no text, neither
+abbrev pub subtitled : Parts → Option (List ℕ) → ℕ → Numbered (List Node × List Node)
+subtitled parts None line = just ([], [])
+subtitled parts (Some t) line = texted parts Subtitle line t line >>= (λ made. just (made.0 ∷ [], made.1))
 
 -- the elements of a term and of its classifiers, and the messages on their text
 abbrev pub termed : Parts → List ℕ → ℕ → Numbered (List Node × List Node)

@@ -1,14 +1,19 @@
 //! Admonitions, topics, containers, program code and other texts.
-ghost use Rattle.std.specs.Prelude.{◌≡◌, option_map, IfOk};
+ghost use Rattle.std.specs.Prelude.{◌≡◌, option_map, chars, Ok, IfOk};
 ghost use Rattle.rst_block_nodes.specs.Admonitions.{title_class, with_title_class};
 ghost use Rattle.rst_markup_directives.specs.Argument.{given_in};
 ghost use Rattle.rst_markup_directives.specs.Options.{choices_in};
-ghost use Rattle.rst_block_nodes.specs.Options.{code_attrs, directive_element, given_attrs, literal_element, with_options};
+ghost use Rattle.rst_block_nodes.specs.Options.{code_attrs, directive_element, given_attrs, literal_element, subtitle_chosen, with_options};
+ghost use Rattle.rst_block_nodes.specs.Readings.{subtitled};
 
 use super::nodes::{element_of, preserving, text_nodes};
+use super::numbers::Numbers;
 use super::settings::{Holder, set_options};
+use super::terms::Heads;
+use super::texted::with_text;
 use super::values::{list_of_texts, text_value};
-use rst_markup_directives::{Argument, Setting};
+use rst_markup_directives::{Argument, OptionName, OptionValue, Setting};
+use rst_settings::Parts;
 use rst_text::id_of;
 use rst_tree::{Attrs, Key, Node, Result, Tag, Text, Texts, Value};
 use std::alloc::Global;
@@ -59,6 +64,48 @@ fn title_class(alloc: Global, title: &Node) -> Result<Value>
     let mut classes = Texts::new(alloc);
     classes.push(class)?;
     Ok(Value::List(classes))
+}
+
+/// The subtitle that the options of a directive in a line give, if they give one, and the messages on its text (Docutils, Directives,
+/// 'Sidebar').
+///
+/// The only refusal is [`AllocError`].
+pub fn subtitle(
+    alloc: Global,
+    parts: Parts,
+    options: &[Setting],
+    line: usize,
+    numbers: &mut Numbers,
+) -> Result<Heads>
+    ensures { IfOk result (λ made. subtitled parts (subtitle_chosen (choices_in options.now)) line numbers.old ≡ Ok ((made.heads.items, made.notes.items), numbers.new)) }
+{
+    let mut heads = Vec::new(alloc);
+    let Some(text) = subtitle_text(options) else {
+        return Ok(Heads {
+            heads,
+            notes: Vec::new(alloc),
+        });
+    };
+    let made = with_text(alloc, parts, Tag::Subtitle, line, text, line, numbers)?;
+    heads.push(made.element)?;
+    Ok(Heads {
+        heads,
+        notes: made.notes,
+    })
+}
+
+/// The text of an option `subtitle`.
+fn subtitle_text(options: &[Setting]) -> Option<&str>
+    ensures { option_map (λ text. chars text.now) result ≡ subtitle_chosen (choices_in options.now) }
+{
+    for setting in options {
+        if setting.option == OptionName::Subtitle
+            && let OptionValue::Text(text) = &setting.value
+        {
+            return Some(text.as_str());
+        }
+    }
+    None
 }
 
 /// A directive whose content is a text without inline markup (Docutils, Directives, 'Code', 'Raw Data Pass-Through').

@@ -25,7 +25,7 @@ mod texted;
 mod values;
 
 pub use contents::{append, completed, filled};
-pub use directives::{directive_element, literal_block, with_options, with_title_class};
+pub use directives::{directive_element, literal_block, subtitle, with_options, with_title_class};
 pub use fault::BlockFault;
 pub use heading::{Heading, Style};
 pub use images::{figure, image};

@@ -1,5 +1,5 @@
 -- Directives, and substitution definitions, which hold directives (Markup Specification, 'Directives', 'Substitution Definitions'; Directives,
--- 'Admonitions', 'Images', 'Topic', 'Code', 'Rubric', 'Parsed Literal Block', 'Raw Data Pass-Through', 'Compound Paragraph', 'Container', 'Replacement
+-- 'Admonitions', 'Images', 'Topic', 'Sidebar', 'Code', 'Rubric', 'Parsed Literal Block', 'Raw Data Pass-Through', 'Compound Paragraph', 'Container', 'Replacement
 -- Text').
 use Rattle.std.specs.Prelude.{ℕ, Bool, true, false, List, [], ◌∷◌, ◌++◌, drop, codes, Option, Some, None, encode_utf8_all, if◌then◌else◌}
 use Rattle.rst_settings.specs.declared.Parts.{Parts}
@@ -26,7 +26,8 @@ use Rattle.rst_block_nodes.specs.Elements.{substitution_definition_node}
 use Rattle.rst_block_nodes.specs.Targets.{may_replace}
 use Rattle.rst_block_nodes.specs.Values.{normalized, unescaped}
 use Rattle.rst_block_nodes.specs.Sections.{filled}
-use Rattle.rst_block_nodes.specs.Options.{directive_element, figure_element, image_element, literal_element, with_options}
+use Rattle.rst_block_nodes.specs.Options.{directive_element, figure_element, image_element, literal_element, subtitle_chosen, with_options}
+use Rattle.rst_block_nodes.specs.Readings.{subtitled}
 use Rattle.rst_block_state.specs.Figures.{caption_error, figure_nodes}
 use Rattle.rst_block_state.specs.LineRuns.{number_or}
 use Rattle.rst_block_state.specs.Numbered.{Numbered, ◌>>=◌, just}
@@ -57,12 +58,20 @@ abbrev pub titled_element : Tag → Node → Node → Node
 titled_element Admonition element heading = with_title_class element heading
 titled_element _ element heading = element
 
--- a directive with a title, whose first line may be the one after the directive's, the messages on the title's text, and the content
+-- what a directive begins with that has a title, whose first line may be the one after the directive's: the title, the subtitle that its options may
+-- give, and the messages on the texts of both
+abbrev pub titled_start : ℕ → Read → Block → Numbered Node
+titled_start line read lines = do
+  made ← texted (first_parts lines) TitleTag (number_or line lines) (joined lines) (number_or line lines)
+  more ← subtitled (first_parts lines) (subtitle_chosen read.options) line
+  just (filled (titled_element read.kind.element (directive_element read.kind.element read.argument read.options line) made.0) (made.0 ∷ more.0 ++ made.1 ++ more.1))
+
+-- a directive with a title, and its content
 abbrev pub titled_nodes : Within → Block → ℕ → Read → Block → Numbered (List Node)
 titled_nodes c B line read lines = do
-  made ← texted (first_parts lines) TitleTag (number_or line lines) (joined lines) (number_or line lines)
+  start ← titled_start line read lines
   nodes ← content_nodes c B read.content
-  just (filled (titled_element read.kind.element (directive_element read.kind.element read.argument read.options line) made.0) (made.0 ∷ made.1 ++ nodes) ∷ [])
+  just (filled start nodes ∷ [])
 
 -- a directive without a title, and its content
 abbrev pub plain_nodes : Within → Block → ℕ → Read → Numbered (List Node)

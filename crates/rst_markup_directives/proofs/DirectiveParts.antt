@@ -31,7 +31,7 @@ use Rattle.rst_markup_directives.specs.declared.kind.ContentKind.{ContentKind}
 use Rattle.rst_markup_directives.specs.declared.kind.ContentKind.TheVariants.{Paragraph, Marked}
 use Rattle.rst_markup_directives.specs.declared.kind.Kind.{Kind}
 use Rattle.rst_markup_directives.specs.declared.kind.ArgumentKind.{ArgumentKind}
-use Rattle.rst_markup_directives.specs.declared.kind.ArgumentKind.TheVariants.{Absent as NoArgument, Title as TitleArgument, Uri as UriArgument, Language as LanguageArgument, Formats as FormatsArgument, Classes as ClassesArgument}
+use Rattle.rst_markup_directives.specs.declared.kind.ArgumentKind.TheVariants.{Absent as NoArgument, Title as TitleArgument, OptionalTitle, Uri as UriArgument, Language as LanguageArgument, Formats as FormatsArgument, Classes as ClassesArgument}
 use Rattle.rst_markup_directives.proofs.Parts.{length_cut}
 
 -- ---- lines of a block
@@ -122,6 +122,7 @@ word_in B words = cond_both (is_among words 32) _ _ (MayBeGivenIn B) (λ _. tt) 
 
 argument_in : (B : Block) (argument : ArgumentKind) (ts : List Text) (part : Part) → IsBlock B part → MayBeGivenIn B (argument_of argument ts part)
 argument_in B TitleArgument (t ∷ ts) part b = b
+argument_in B OptionalTitle (t ∷ ts) part b = b
 argument_in B UriArgument [] part b = tt
 argument_in B FormatsArgument [] part b = tt
 argument_in B ClassesArgument [] part b = tt

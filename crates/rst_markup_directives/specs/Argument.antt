@@ -1,4 +1,4 @@
--- The arguments of directives (Directives, 'Generic Admonition', 'Topic', 'Image', 'Figure', 'Code', 'Raw Data Pass-Through', 'Container').
+-- The arguments of directives (Directives, 'Generic Admonition', 'Topic', 'Sidebar', 'Image', 'Figure', 'Code', 'Raw Data Pass-Through', 'Container').
 use Rattle.std.specs.Prelude.{List, [], ◌∷◌, Option, Some, None, option_map, Result, Ok, Err, if◌then◌else◌}
 use Rattle.rst_text.specs.Names.{name_of, normalized_white}
 use Rattle.rst_text.specs.Text.{chars_of}
@@ -11,7 +11,7 @@ use Rattle.rst_markup_directives.specs.declared.argument.Argument.{Argument}
 use Rattle.rst_markup_directives.specs.declared.argument.Argument.TheVariants.{Absent, Title, Uri, Language, Formats, Classes}
 use Rattle.rst_markup_directives.specs.declared.fault.Detail.{Detail}
 use Rattle.rst_markup_directives.specs.declared.kind.ArgumentKind.{ArgumentKind}
-use Rattle.rst_markup_directives.specs.declared.kind.ArgumentKind.TheVariants.{Absent as NoArgument, Title as TitleArgument, Uri as UriArgument, Language as LanguageArgument, Formats as FormatsArgument, Classes as ClassesArgument}
+use Rattle.rst_markup_directives.specs.declared.kind.ArgumentKind.TheVariants.{Absent as NoArgument, Title as TitleArgument, OptionalTitle, Uri as UriArgument, Language as LanguageArgument, Formats as FormatsArgument, Classes as ClassesArgument}
 use Rattle.rst_markup_blocks.specs.declared.part.Part.{Part}
 
 -- what an argument means
@@ -27,6 +27,11 @@ pub data ArgumentMeaning : Type 0 where
 abbrev pub title_argument : List Text → Part → Result ArgumentMeaning Wrong
 title_argument [] part = Err no_argument
 title_argument (t ∷ ts) part = Ok (title part)
+
+-- a title, some lines, or none
+abbrev pub optional_title : List Text → Part → ArgumentMeaning
+optional_title [] part = nothing
+optional_title (t ∷ ts) part = title part
 
 -- a URI, without white characters
 abbrev pub uri_of : List Text → Result ArgumentMeaning Wrong
@@ -56,6 +61,7 @@ classes_of (t ∷ ts) = classes (joined_nonempty (t ∷ ts)) (ids_of (joined_non
 abbrev pub argument_of : ArgumentKind → List Text → Part → Result ArgumentMeaning Wrong
 argument_of NoArgument ts part = Ok nothing
 argument_of TitleArgument ts part = title_argument ts part
+argument_of OptionalTitle ts part = Ok (optional_title ts part)
 argument_of UriArgument ts part = uri_of ts
 argument_of LanguageArgument ts part = language_of ts
 argument_of FormatsArgument ts part = formats_of ts

@@ -8,7 +8,7 @@ use Rattle.rst_text.specs.Block.{Block, cut, first_parts}
 use Rattle.rst_markup_directives.specs.Argument.{ArgumentMeaning, classes, given_in, argument_of}
 use Rattle.rst_markup_directives.specs.Call.{called_at, part_of, content_of, is_empty}
 use Rattle.rst_markup_directives.specs.Characters.{Text}
-use Rattle.rst_markup_directives.specs.Judgement.{permitted, content_fault, file_fault}
+use Rattle.rst_markup_directives.specs.Judgement.{permitted, content_fault, has_title, option_fault}
 use Rattle.rst_markup_directives.specs.Kind.{is_text}
 use Rattle.rst_markup_directives.specs.Layout.{layout_of}
 use Rattle.rst_markup_directives.specs.Lines.{first_run}
@@ -93,7 +93,7 @@ classes_fault _ = None
 -- what is wrong with the options, the content or the place of a directive, or else with class names
 abbrev pub fault_of : Place → Bool → Read → Option Fault
 fault_of place paragraph read =
-    option_or (option_map fault_in (option_or (file_fault read.options) (content_fault read.kind (is_empty read.content) place paragraph))) (classes_fault read.argument)
+    option_or (option_map fault_in (option_or (option_fault (has_title read.argument) read.options) (content_fault read.kind (is_empty read.content) place paragraph))) (classes_fault read.argument)
 
 -- a directive, unless something is wrong with it
 abbrev pub judged_directive : Place → Bool → Read → Result Read Fault

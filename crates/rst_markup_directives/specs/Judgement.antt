@@ -1,20 +1,21 @@
 -- Where directives are allowed, and with which content (Directives, 'Specific Admonitions', 'Generic Admonition',
--- 'Topic', 'Image', 'Figure', 'Code', 'Replacement Text'; Markup Specification, 'Substitution Definitions').
-use Rattle.std.specs.Prelude.{Bool, true, false, not, ◌&&◌, List, Option, Some, None, Result, Ok, Err, if◌then◌else◌}
-use Rattle.std.specs.List.{list_any}
+-- 'Topic', 'Sidebar', 'Image', 'Figure', 'Code', 'Replacement Text'; Markup Specification, 'Substitution Definitions').
+use Rattle.std.specs.Prelude.{Bool, true, false, not, ◌&&◌, List, [], ◌∷◌, Option, Some, None, Result, Ok, Err, if◌then◌else◌}
 use Rattle.std.specs.Option.{option_or}
-use Rattle.rst_markup_directives.specs.Kind.{reads_file}
+use Rattle.rst_markup_directives.specs.Argument.{ArgumentMeaning, title}
 use Rattle.rst_markup_directives.specs.Options.{OptionSetting}
 use Rattle.rst_markup_directives.specs.declared.fault.Detail.TheVariants.{ContentNotPermitted, NotOneParagraph}
 use Rattle.rst_markup_directives.specs.declared.fault.DirectiveFault.{DirectiveFault}
-use Rattle.rst_markup_directives.specs.declared.fault.DirectiveFault.TheVariants.{NotInSubstitution, Unknown, Inside, NoContent, TopicNotHere, ReplaceNotHere, Disabled}
+use Rattle.rst_markup_directives.specs.declared.fault.DirectiveFault.TheVariants.{NotInSubstitution, Unknown, Inside, NoContent, TopicNotHere, SidebarNotHere, LoneSubtitle, ReplaceNotHere, Disabled}
 use Rattle.rst_markup_directives.specs.declared.found.Place.{Place}
 use Rattle.rst_markup_directives.specs.declared.found.Place.TheVariants.{Top, Substitution}
 use Rattle.rst_markup_directives.specs.declared.kind.Allowed.{Allowed}
-use Rattle.rst_markup_directives.specs.declared.kind.Allowed.TheVariants.{Sections, Substitution as SubstitutionAlone, Anywhere, Nowhere}
+use Rattle.rst_markup_directives.specs.declared.kind.Allowed.TheVariants.{Sections, Beside, Substitution as SubstitutionAlone, Anywhere, Nowhere}
 use Rattle.rst_markup_directives.specs.declared.kind.ContentKind.{ContentKind}
 use Rattle.rst_markup_directives.specs.declared.kind.ContentKind.TheVariants.{Empty, Paragraph, Caption}
 use Rattle.rst_markup_directives.specs.declared.kind.Kind.{Kind}
+use Rattle.rst_markup_directives.specs.declared.option.OptionName.{OptionName}
+use Rattle.rst_markup_directives.specs.declared.option.OptionName.TheVariants.{File, Subtitle, Url}
 
 -- the place is a substitution definition
 abbrev pub is_definition_place : Place → Bool
@@ -36,10 +37,12 @@ permitted_by None substitution = if substitution then Err NotInSubstitution else
 unfoldable pub permitted : Option Kind → Place → Result Kind DirectiveFault
 permitted kind place = permitted_by kind (is_definition_place place)
 
--- a topic is allowed at the level of sections alone, a replacement text in a substitution definition alone, and what reads files nowhere
+-- a topic or a sidebar is allowed at the level of sections alone, a replacement text in a substitution definition alone, and what reads files nowhere
 abbrev pub place_fault : Allowed → Place → Option DirectiveFault
 place_fault Sections Top = None
 place_fault Sections _ = Some TopicNotHere
+place_fault Beside Top = None
+place_fault Beside _ = Some SidebarNotHere
 place_fault SubstitutionAlone Substitution = None
 place_fault SubstitutionAlone _ = Some ReplaceNotHere
 place_fault Nowhere _ = Some Disabled
@@ -53,9 +56,22 @@ fault_by Empty empty paragraph = if empty then None else Some (Inside ContentNot
 fault_by Paragraph empty paragraph = if empty then Some NoContent else if paragraph then None else Some (Inside NotOneParagraph)
 fault_by _ empty paragraph = if empty then Some NoContent else None
 
--- no option may name a file
-abbrev pub file_fault : List OptionSetting → Option DirectiveFault
-file_fault options = if list_any (λ setting. reads_file setting.0) options then Some Disabled else None
+-- the argument is a title
+abbrev pub has_title : ArgumentMeaning → Bool
+has_title (title part) = true
+has_title _ = false
+
+-- no option may name a file, and none may be a subtitle where there is no title
+abbrev pub fault_of_option : Bool → OptionName → Option DirectiveFault
+fault_of_option titled File = Some Disabled
+fault_of_option titled Url = Some Disabled
+fault_of_option false Subtitle = Some LoneSubtitle
+fault_of_option titled _ = None
+
+-- the fault of the first option that has one
+abbrev pub option_fault : Bool → List OptionSetting → Option DirectiveFault
+option_fault titled [] = None
+option_fault titled (setting ∷ more) = option_or (fault_of_option titled setting.0) (option_fault titled more)
 
 -- the fault of a directive's content, which is empty or not, and maybe a single paragraph; or else of its place
 unfoldable pub content_fault : Kind → Bool → Place → Bool → Option DirectiveFault

@@ -12,18 +12,18 @@ use Rattle.rst_tree.specs.declared.tag.Tag.{Tag}
 use Rattle.rst_tree.specs.declared.tag.Tag.TheVariants as tag
 use Rattle.rst_markup_directives.specs.Characters.{Text, is_word, lookup}
 use Rattle.rst_markup_directives.specs.declared.kind.Allowed.{Allowed}
-use Rattle.rst_markup_directives.specs.declared.kind.Allowed.TheVariants.{Body, Sections, Substitution, Anywhere, Nowhere}
+use Rattle.rst_markup_directives.specs.declared.kind.Allowed.TheVariants.{Body, Sections, Beside, Substitution, Anywhere, Nowhere}
 use Rattle.rst_markup_directives.specs.declared.kind.ArgumentKind.{ArgumentKind}
-use Rattle.rst_markup_directives.specs.declared.kind.ArgumentKind.TheVariants.{Absent, Title, Uri, Language, Formats, Classes}
+use Rattle.rst_markup_directives.specs.declared.kind.ArgumentKind.TheVariants.{Absent, Title, OptionalTitle, Uri, Language, Formats, Classes}
 use Rattle.rst_markup_directives.specs.declared.kind.ContentKind.{ContentKind}
 use Rattle.rst_markup_directives.specs.declared.kind.ContentKind.TheVariants.{Empty as NoContent, Lines, Marked, Blocks, Paragraph, Caption}
 use Rattle.rst_markup_directives.specs.declared.kind.Kind.{Kind}
 use Rattle.rst_markup_directives.specs.declared.kind.OptionSet.{OptionSet}
-use Rattle.rst_markup_directives.specs.declared.kind.OptionSet.TheVariants.{Empty as NoOptions, Common, NameAlone, Raw as RawOptions, Include, Image, Figure}
+use Rattle.rst_markup_directives.specs.declared.kind.OptionSet.TheVariants.{Empty as NoOptions, Common, NameAlone, Sidebar as SidebarOptions, Raw as RawOptions, Include, Image, Figure}
 use Rattle.rst_markup_directives.specs.declared.kind.PartName.{PartName}
 use Rattle.rst_markup_directives.specs.declared.kind.PartName.TheVariants.{Usual, Code, Wider}
 use Rattle.rst_markup_directives.specs.declared.option.OptionName.{OptionName}
-use Rattle.rst_markup_directives.specs.declared.option.OptionName.TheVariants.{Class, Name, FigureWidth, FigureClass, File, Url, Inclusion}
+use Rattle.rst_markup_directives.specs.declared.option.OptionName.TheVariants.{Class, Name, FigureWidth, FigureClass, Subtitle, File, Url, Inclusion}
 
 -- a directive by its element, its argument, its options, its content, and where it is allowed
 abbrev pub kind : Tag → ArgumentKind → OptionSet → ContentKind → Allowed → Kind
@@ -64,6 +64,7 @@ directives =
     ∷ row "include" Wider tag.LiteralBlock Title Include NoContent Nowhere
     ∷ row "compound" Wider tag.Compound Absent Common Blocks Body
     ∷ row "container" Wider tag.Container Classes NameAlone Blocks Body
+    ∷ row "sidebar" Wider tag.Sidebar OptionalTitle SidebarOptions Blocks Beside
     ∷ []
 
 -- a part of the profile is on; `code` is true if the directive for program code is
@@ -105,7 +106,8 @@ reads_file File = true
 reads_file Url = true
 reads_file _ = false
 
--- none, `class` and `name`, `name` alone, those of raw data, those of a file's inclusion, those of an image, or these and those of a figure
+-- none, `class` and `name`, `name` alone, those of a sidebar, those of raw data, those of a file's inclusion, those of an image, or these and those of a
+-- figure
 abbrev pub has_option : OptionSet → OptionName → Bool
 has_option NoOptions option = false
 has_option Common Class = true
@@ -113,12 +115,17 @@ has_option Common Name = true
 has_option Common _ = false
 has_option NameAlone Name = true
 has_option NameAlone _ = false
+has_option SidebarOptions Class = true
+has_option SidebarOptions Name = true
+has_option SidebarOptions Subtitle = true
+has_option SidebarOptions _ = false
 has_option RawOptions Class = true
 has_option RawOptions option = reads_file option
 has_option Include Class = true
 has_option Include Name = true
 has_option Include Inclusion = true
 has_option Include _ = false
+has_option _ Subtitle = false
 has_option _ File = false
 has_option _ Url = false
 has_option _ Inclusion = false

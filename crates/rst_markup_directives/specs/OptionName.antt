@@ -1,8 +1,9 @@
--- The options of directives (Directives, 'Common Options', 'Image', 'Figure', 'Raw Data Pass-Through', 'Including an External Document Fragment').
+-- The options of directives (Directives, 'Common Options', 'Image', 'Figure', 'Sidebar', 'Raw Data Pass-Through', 'Including an External Document
+-- Fragment').
 use Rattle.std.specs.Prelude.{List, [], ◌∷◌, codes, map, Option}
 use Rattle.rst_markup_directives.specs.Characters.{Text, is_word, lookup}
 use Rattle.rst_markup_directives.specs.declared.option.OptionName.{OptionName}
-use Rattle.rst_markup_directives.specs.declared.option.OptionName.TheVariants.{Alt, Height, Width, Scale, Align, Target, Class, Name, FigureWidth, FigureClass, File, Url, Inclusion}
+use Rattle.rst_markup_directives.specs.declared.option.OptionName.TheVariants.{Alt, Height, Width, Scale, Align, Target, Class, Name, FigureWidth, FigureClass, Subtitle, File, Url, Inclusion}
 
 -- the names of the options that `include` alone has
 abbrev pub inclusion_names : List Text
@@ -13,7 +14,7 @@ inclusion_names =
 abbrev pub options : List (Text × OptionName)
 options =
     (codes "alt", Alt) ∷ (codes "height", Height) ∷ (codes "width", Width) ∷ (codes "scale", Scale) ∷ (codes "align", Align) ∷ (codes "target", Target)
-    ∷ (codes "class", Class) ∷ (codes "name", Name) ∷ (codes "figwidth", FigureWidth) ∷ (codes "figclass", FigureClass) ∷ (codes "file", File) ∷ (codes "url", Url)
+    ∷ (codes "class", Class) ∷ (codes "name", Name) ∷ (codes "figwidth", FigureWidth) ∷ (codes "figclass", FigureClass) ∷ (codes "subtitle", Subtitle) ∷ (codes "file", File) ∷ (codes "url", Url)
     ∷ map (λ name. (name, Inclusion)) inclusion_names
 
 -- the option that a text names

@@ -12,7 +12,7 @@ use Rattle.rst_markup_directives.specs.Target.{Destination, destination_of, targ
 use Rattle.rst_markup_directives.specs.declared.measure.Alignment.{Alignment}
 use Rattle.rst_markup_directives.specs.declared.kind.OptionSet.{OptionSet}
 use Rattle.rst_markup_directives.specs.declared.option.OptionName.{OptionName}
-use Rattle.rst_markup_directives.specs.declared.option.OptionName.TheVariants.{Alt, Height, Width, Scale, Align, Target, Class, Name as NameOption, FigureWidth, FigureClass, File, Url, Inclusion}
+use Rattle.rst_markup_directives.specs.declared.option.OptionName.TheVariants.{Alt, Height, Width, Scale, Align, Target, Class, Name as NameOption, FigureWidth, FigureClass, Subtitle, File, Url, Inclusion}
 use Rattle.rst_markup_directives.specs.declared.value.OptionValue.{OptionValue}
 use Rattle.rst_markup_directives.specs.declared.value.OptionValue.TheVariants.{Text as TextValue, Measure, Number, Place, Classes, Link, Name as NameValue}
 
@@ -55,6 +55,7 @@ option_meaning options Class t = option_map classed (ids_of t)
 option_meaning options NameOption t = Some (called (name_of t))
 option_meaning options FigureWidth t = option_map measured (measure_of t true true)
 option_meaning options FigureClass t = option_map classed (ids_of t)
+option_meaning options Subtitle t = option_map plain (some_text t)
 option_meaning options File t = option_map plain (some_text t)
 option_meaning options Url t = option_map plain (some_text t)
 option_meaning options Inclusion t = Some (plain t)

@@ -5,7 +5,7 @@ use Rattle.rst_markup_directives.specs.Characters.{Text}
 use Rattle.rst_markup_directives.specs.declared.fault.Detail.{Detail}
 use Rattle.rst_markup_directives.specs.declared.fault.Detail.TheVariants.{InvalidOptionBlock, UnknownOption, DuplicateOption, InvalidValue, NoArgument, ManyArguments, ContentNotPermitted, NotOneParagraph}
 use Rattle.rst_markup_directives.specs.declared.fault.DirectiveFault.{DirectiveFault}
-use Rattle.rst_markup_directives.specs.declared.fault.DirectiveFault.TheVariants.{NotInSubstitution, Unknown, Inside, NoContent, TopicNotHere, ReplaceNotHere, Disabled, InvalidClasses}
+use Rattle.rst_markup_directives.specs.declared.fault.DirectiveFault.TheVariants.{NotInSubstitution, Unknown, Inside, NoContent, TopicNotHere, SidebarNotHere, LoneSubtitle, ReplaceNotHere, Disabled, InvalidClasses}
 
 -- what is wrong inside a directive; an option's name is given as it is written
 pub data Wrong : Type 0 where
@@ -35,6 +35,8 @@ pub data Fault : Type 0 where
   inside : Wrong → Fault
   no_content : Fault
   topic_not_here : Fault
+  sidebar_not_here : Fault
+  lone_subtitle : Fault
   replace_not_here : Fault
   disabled : Fault
   invalid_classes : Text → Fault
@@ -59,6 +61,8 @@ fault_in Unknown = unknown_directive
 fault_in (Inside detail) = inside (wrong_in detail)
 fault_in NoContent = no_content
 fault_in TopicNotHere = topic_not_here
+fault_in SidebarNotHere = sidebar_not_here
+fault_in LoneSubtitle = lone_subtitle
 fault_in ReplaceNotHere = replace_not_here
 fault_in Disabled = disabled
 fault_in (InvalidClasses text) = invalid_classes (chars_of text)

@@ -11,7 +11,7 @@ ghost use Rattle.rst_markup_directives.specs.Wrong.{and_then};
 use super::argument::{Argument, argument_of};
 use super::fault::{Detail, DirectiveFault};
 use super::found::{Content, Directive, Place};
-use super::judgement::{content_fault, file_fault, permitted};
+use super::judgement::{content_fault, option_fault, permitted};
 use super::kind::Kind;
 use super::layout::layout_of;
 use super::lines::run_of;
@@ -200,7 +200,7 @@ fn judged_directive(
         }
     };
     let empty = content.first.from == content.first.to && content.second.from == content.second.to;
-    let fault = match file_fault(options.as_slice()) {
+    let fault = match option_fault(&argument, options.as_slice()) {
         None => content_fault(kind, empty, place, paragraph),
         fault => fault,
     };

@@ -13,6 +13,10 @@ pub enum DirectiveFault {
     NoContent,
     /// A topic in a body element or in a topic.
     TopicNotHere,
+    /// A sidebar there.
+    SidebarNotHere,
+    /// A subtitle without a title.
+    LoneSubtitle,
     /// A replacement text outside of a substitution definition.
     ReplaceNotHere,
     /// It reads a file.

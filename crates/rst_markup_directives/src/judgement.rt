@@ -1,11 +1,14 @@
 //! Where directives are allowed, and with which content.
 ghost use Rattle.std.specs.Prelude.{◌≡◌};
+ghost use Rattle.rst_markup_directives.specs.Argument.{given_in};
 ghost use Rattle.rst_markup_directives.specs.Judgement as spec;
 ghost use Rattle.rst_markup_directives.specs.Options.{choices_in};
 
+use super::argument::Argument;
 use super::fault::{Detail, DirectiveFault};
 use super::found::Place;
 use super::kind::{Allowed, ContentKind, Kind};
+use super::option::OptionName;
 use super::options::Setting;
 
 /// The kind of a directive, if there is one and it is allowed there; or the fault.
@@ -23,13 +26,16 @@ pub(crate) fn permitted(kind: Option<Kind>, place: Place) -> Result<Kind, Direct
     }
 }
 
-/// The fault of an option that names a file.
-pub(crate) fn file_fault(options: &[Setting]) -> Option<DirectiveFault>
-    ensures { result ≡ spec.file_fault (choices_in options.now) }
+/// The fault of the first option that names a file, or is a subtitle where there is no title.
+pub(crate) fn option_fault(argument: &Argument, options: &[Setting]) -> Option<DirectiveFault>
+    ensures { result ≡ spec.option_fault (spec.has_title (given_in argument.now)) (choices_in options.now) }
 {
+    let titled = matches!(argument, Argument::Title(_));
     for setting in options {
-        if setting.option.reads_file() {
-            return Some(DirectiveFault::Disabled);
+        match setting.option {
+            OptionName::File | OptionName::Url => return Some(DirectiveFault::Disabled),
+            OptionName::Subtitle if !titled => return Some(DirectiveFault::LoneSubtitle),
+            _ => {}
         }
     }
     None
@@ -55,8 +61,10 @@ pub(crate) fn content_fault(
             Some(DirectiveFault::Inside(Detail::NotOneParagraph))
         }
         _ => match (kind.allowed, place) {
-            (Allowed::Sections, Place::Top) | (Allowed::Substitution, Place::Substitution) => None,
+            (Allowed::Sections | Allowed::Beside, Place::Top)
+            | (Allowed::Substitution, Place::Substitution) => None,
             (Allowed::Sections, _) => Some(DirectiveFault::TopicNotHere),
+            (Allowed::Beside, _) => Some(DirectiveFault::SidebarNotHere),
             (Allowed::Substitution, _) => Some(DirectiveFault::ReplaceNotHere),
             (Allowed::Nowhere, _) => Some(DirectiveFault::Disabled),
             _ => None,

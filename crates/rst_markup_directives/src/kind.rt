@@ -24,6 +24,8 @@ pub enum ArgumentKind {
     Absent,
     /// A title, which is required.
     Title,
+    /// A title, or nothing.
+    OptionalTitle,
     /// A URI, which is required.
     Uri,
     /// A language, or nothing.
@@ -42,6 +44,8 @@ pub enum OptionSet {
     Common,
     /// `name`.
     NameAlone,
+    /// `class`, `name`, and `subtitle`.
+    Sidebar,
     /// `class`, and those that name a file.
     Raw,
     /// `class`, `name`, and those that `include` alone has.
@@ -75,6 +79,8 @@ pub enum Allowed {
     Body,
     /// At the level of sections alone.
     Sections,
+    /// There as well, beside the text.
+    Beside,
     /// In a substitution definition alone.
     Substitution,
     /// Where body elements are, and in a substitution definition.
@@ -115,7 +121,7 @@ macro_rules! row {
 }
 
 /// The directives by their names.
-const DIRECTIVES: [(&str, (PartName, Kind)); 23] = [
+const DIRECTIVES: [(&str, (PartName, Kind)); 24] = [
     row!("code" in Code: LiteralBlock, Language, Common, Lines, Body),
     row!("code-block" in Code: LiteralBlock, Language, Common, Lines, Body),
     row!("sourcecode" in Code: LiteralBlock, Language, Common, Lines, Body),
@@ -139,6 +145,7 @@ const DIRECTIVES: [(&str, (PartName, Kind)); 23] = [
     row!("include" in Wider: LiteralBlock, Title, Include, Empty, Nowhere),
     row!("compound" in Wider: Compound, Absent, Common, Blocks, Body),
     row!("container" in Wider: Container, Classes, NameAlone, Blocks, Body),
+    row!("sidebar" in Wider: Sidebar, OptionalTitle, Sidebar, Blocks, Beside),
 ];
 
 /// Whether a text names a directive of the wider profile, without regard to the case of letters of ASCII.
@@ -216,13 +223,18 @@ impl OptionSet {
             OptionSet::Empty => false,
             OptionSet::Common => matches!(option, OptionName::Class | OptionName::Name),
             OptionSet::NameAlone => option == OptionName::Name,
+            OptionSet::Sidebar => matches!(
+                option,
+                OptionName::Class | OptionName::Name | OptionName::Subtitle
+            ),
             OptionSet::Raw => option == OptionName::Class || option.reads_file(),
             OptionSet::Include => matches!(
                 option,
                 OptionName::Class | OptionName::Name | OptionName::Inclusion
             ),
             OptionSet::Image | OptionSet::Figure => match option {
-                OptionName::File | OptionName::Url | OptionName::Inclusion => false,
+                OptionName::Subtitle | OptionName::File | OptionName::Url | OptionName::Inclusion =>
+                    { false }
                 OptionName::FigureWidth | OptionName::FigureClass => self == OptionSet::Figure,
                 _ => true,
             },

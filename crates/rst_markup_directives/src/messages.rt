@@ -33,6 +33,13 @@ pub fn message(alloc: Global, fault: &DirectiveFault, name: &str) -> Result<Stri
             alloc,
             "The \"topic\" directive may not be used within topics or body elements.",
         )?),
+        DirectiveFault::SidebarNotHere => Ok(format!(in alloc;
+            "The \"{name}\" directive may not be used within topics or body elements."
+        )?),
+        DirectiveFault::LoneSubtitle => Ok(String::from_str(
+            alloc,
+            "The \"subtitle\" option may not be used without a title.",
+        )?),
         DirectiveFault::ReplaceNotHere => Ok(String::from_str(
             alloc,
             "Invalid context: the \"replace\" directive can only be used within a substitution definition.",

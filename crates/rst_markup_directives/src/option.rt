@@ -18,6 +18,7 @@ pub enum OptionName {
     Name,
     FigureWidth,
     FigureClass,
+    Subtitle,
     File,
     Url,
     /// One that `include` alone has. Nothing is made of it, as no file is read.
@@ -25,7 +26,7 @@ pub enum OptionName {
 }
 
 /// The options by their names.
-const OPTIONS: [(&str, OptionName); 20] = [
+const OPTIONS: [(&str, OptionName); 21] = [
     ("alt", OptionName::Alt),
     ("height", OptionName::Height),
     ("width", OptionName::Width),
@@ -36,6 +37,7 @@ const OPTIONS: [(&str, OptionName); 20] = [
     ("name", OptionName::Name),
     ("figwidth", OptionName::FigureWidth),
     ("figclass", OptionName::FigureClass),
+    ("subtitle", OptionName::Subtitle),
     ("file", OptionName::File),
     ("url", OptionName::Url),
     ("literal", OptionName::Inclusion),

@@ -8,8 +8,8 @@ ghost use Rattle.rst_text.specs.Written.{block};
 ghost use Rattle.rst_tree.specs.declared.note.Level.TheVariants.{Error, Warning};
 ghost use Rattle.rst_tree.specs.declared.tag.Tag.TheVariants as tag;
 ghost use Rattle.rst_markup_directives.specs.Argument.{argument_of, classes, formats, language, nothing, title, uri};
-ghost use Rattle.rst_markup_directives.specs.Directive.{directive_at, found, read_block, wrong};
-ghost use Rattle.rst_markup_directives.specs.Judgement.{content_fault, file_fault, permitted};
+ghost use Rattle.rst_markup_directives.specs.Directive.{directive_at, directive_of, found, read_block, wrong};
+ghost use Rattle.rst_markup_directives.specs.Judgement.{content_fault, option_fault, permitted};
 ghost use Rattle.rst_markup_directives.specs.Measure.{alignment_of, measure_of, scale_of};
 ghost use Rattle.rst_markup_directives.specs.Message.{fault_level, fault_text, wrong_text};
 ghost use Rattle.rst_markup_directives.specs.Kind.{directive_named, has_option, is_wider_directive, kind};
@@ -17,17 +17,17 @@ ghost use Rattle.rst_markup_directives.specs.OptionName.{option_named};
 ghost use Rattle.rst_markup_directives.specs.Options.{fields_in};
 ghost use Rattle.rst_markup_directives.specs.Target.{located, named, target_value};
 ghost use Rattle.rst_markup_directives.specs.Value.{called, classed, ids_of, linked, measured, numbered, placed, plain, option_meaning};
-ghost use Rattle.rst_markup_directives.specs.Wrong.{disabled, duplicate, inside, invalid, invalid_classes, many_arguments, no_argument, no_content, not_in_substitution, option_block, replace_not_here, topic_not_here, unknown, unknown_directive};
+ghost use Rattle.rst_markup_directives.specs.Wrong.{disabled, duplicate, inside, invalid, invalid_classes, lone_subtitle, many_arguments, no_argument, no_content, not_in_substitution, option_block, replace_not_here, sidebar_not_here, topic_not_here, unknown, unknown_directive};
 ghost use Rattle.rst_markup_directives.specs.Wrong as faults;
 ghost use Rattle.rst_markup_directives.specs.declared.fault.Detail.TheVariants.{ContentNotPermitted, NotOneParagraph};
-ghost use Rattle.rst_markup_directives.specs.declared.fault.DirectiveFault.TheVariants.{Disabled, Inside, NoContent, NotInSubstitution, ReplaceNotHere, TopicNotHere, Unknown};
+ghost use Rattle.rst_markup_directives.specs.declared.fault.DirectiveFault.TheVariants.{Disabled, Inside, LoneSubtitle, NoContent, NotInSubstitution, ReplaceNotHere, SidebarNotHere, TopicNotHere, Unknown};
 ghost use Rattle.rst_markup_directives.specs.declared.found.Place.TheVariants.{Body, Substitution, Top as Sections};
 ghost use Rattle.rst_markup_directives.specs.declared.measure.Alignment.TheVariants.{Bottom, Center, Left, Middle, Right, Top};
 ghost use Rattle.rst_markup_directives.specs.declared.kind.Allowed.TheVariants as allowed;
-ghost use Rattle.rst_markup_directives.specs.declared.kind.ArgumentKind.TheVariants.{Absent, Classes, Formats, Language, Title, Uri};
+ghost use Rattle.rst_markup_directives.specs.declared.kind.ArgumentKind.TheVariants.{Absent, Classes, Formats, Language, OptionalTitle, Title, Uri};
 ghost use Rattle.rst_markup_directives.specs.declared.kind.ContentKind.TheVariants.{Blocks, Caption, Empty, Lines, Marked, Paragraph};
-ghost use Rattle.rst_markup_directives.specs.declared.kind.OptionSet.TheVariants.{Common, Empty as NoOptions, Figure, Image, Include, NameAlone, Raw as RawOptions};
-ghost use Rattle.rst_markup_directives.specs.declared.option.OptionName.TheVariants.{Align, Alt, Class, FigureClass, FigureWidth, File, Height, Inclusion, Name as NameOption, Scale, Target, Url, Width};
+ghost use Rattle.rst_markup_directives.specs.declared.kind.OptionSet.TheVariants.{Common, Empty as NoOptions, Figure, Image, Include, NameAlone, Raw as RawOptions, Sidebar as SidebarOptions};
+ghost use Rattle.rst_markup_directives.specs.declared.option.OptionName.TheVariants.{Align, Alt, Class, FigureClass, FigureWidth, File, Height, Inclusion, Name as NameOption, Scale, Subtitle, Target, Url, Width};
 
 /// Which directive a name is of (Markup Specification, 'Directives').
 pub fn names()
@@ -50,8 +50,9 @@ pub fn names()
         ≡ Some (kind tag.Rubric Title Common Empty allowed.Body) ∷ Some (kind tag.Raw Formats RawOptions Lines allowed.Anywhere)
         ∷ Some (kind tag.LiteralBlock Absent Common Marked allowed.Body) ∷ Some (kind tag.LiteralBlock Title Include Empty allowed.Nowhere)
         ∷ Some (kind tag.Compound Absent Common Blocks allowed.Body) ∷ Some (kind tag.Container Classes NameAlone Blocks allowed.Body) ∷ [] }
+    ensures sidebar { directive_named all_parts (codes "Sidebar") false ≡ Some (kind tag.Sidebar OptionalTitle SidebarOptions Blocks allowed.Beside) }
     ensures without_their_part { filter (λ t. is_some (directive_named (record all_parts { directives = false }) (codes t) true)) ("rubric" ∷ "raw"
-        ∷ "parsed-literal" ∷ "include" ∷ "compound" ∷ "container" ∷ [])
+        ∷ "parsed-literal" ∷ "include" ∷ "compound" ∷ "container" ∷ "sidebar" ∷ [])
         ≡ [] }
     ensures wider { filter (λ t. is_wider_directive (codes t)) ("note" ∷ "code" ∷ "Raw" ∷ "PARSED-literal" ∷ "ra" ∷ "raws" ∷ "math" ∷ "" ∷ [])
         ≡ "Raw" ∷ "PARSED-literal" ∷ [] }
@@ -69,6 +70,10 @@ pub fn option_names()
     ensures inclusion { map (λ t. option_named (codes t)) ("literal" ∷ "code" ∷ "number-lines" ∷ "start-line" ∷ "end-line" ∷ "start-after" ∷ "end-before"
         ∷ "tab-width" ∷ "encoding" ∷ "parser" ∷ [])
         ≡ (let own = Some Inclusion in own ∷ own ∷ own ∷ own ∷ own ∷ own ∷ own ∷ own ∷ None ∷ None ∷ []) }
+    ensures subtitle { map (λ t. option_named (codes t)) ("SubTitle" ∷ "title" ∷ []) ≡ Some Subtitle ∷ None ∷ [] }
+    ensures of_a_sidebar { filter (λ o. has_option SidebarOptions o) (Alt ∷ Class ∷ NameOption ∷ Subtitle ∷ File ∷ []) ≡ Class ∷ NameOption ∷ Subtitle ∷ [] }
+    ensures subtitles { filter (λ d. has_option d Subtitle) (NoOptions ∷ Common ∷ NameAlone ∷ SidebarOptions ∷ RawOptions ∷ Include ∷ Image ∷ Figure ∷ [])
+        ≡ SidebarOptions ∷ [] }
     ensures case_of_letters { map (λ t. option_named (codes t)) ("FigWidth" ∷ "alt text" ∷ "number-line" ∷ [])
         ≡ Some FigureWidth ∷ None ∷ None ∷ [] }
     ensures image { filter (λ o. has_option Image o) (Alt ∷ Height ∷ Width ∷ Scale ∷ Align ∷ Target ∷ Class ∷ NameOption ∷ FigureWidth ∷ FigureClass
@@ -132,6 +137,7 @@ pub fn values()
     ensures alt { option_meaning Image Alt (codes "A\\ b") ≡ Some (plain (codes "A\\ b")) }
     ensures name { option_meaning Common NameOption (codes "A\n  b") ≡ Some (called (codes "a b")) }
     ensures file { map (λ t. option_meaning RawOptions File (codes t)) ("a.html" ∷ "" ∷ []) ≡ Some (plain (codes "a.html")) ∷ None ∷ [] }
+    ensures subtitle { map (λ t. option_meaning SidebarOptions Subtitle (codes t)) ("a *b*" ∷ "" ∷ []) ≡ Some (plain (codes "a *b*")) ∷ None ∷ [] }
     ensures height { map (λ t. option_meaning Image Height (codes t)) ("50" ∷ "50%" ∷ []) ≡ Some (measured (codes "50")) ∷ None ∷ [] }
     ensures width { map (λ t. option_meaning Figure Width (codes t)) ("50" ∷ "50%" ∷ [])
         ≡ Some (measured (codes "50")) ∷ Some (measured (codes "50%")) ∷ [] }
@@ -271,6 +277,8 @@ pub fn arguments()
     ensures with_classes { map (λ t. argument_of Classes (codes t ∷ codes "B" ∷ []) (record { from = 0; to = 2; first_cut = 14; rest_cut = 3 })) ("a"
         ∷ "a 1" ∷ [])
         ≡ Ok (classes (codes "a\nB") (Some (codes "a" ∷ codes "b" ∷ []))) ∷ Ok (classes (codes "a 1\nB") None) ∷ [] }
+    ensures with_a_title_or_not { map (λ ts. argument_of OptionalTitle ts (record { from = 0; to = 1; first_cut = 12; rest_cut = 3 })) ((codes "a b" ∷ []) ∷ [] ∷ [])
+        ≡ Ok (title (record { from = 0; to = 1; first_cut = 12; rest_cut = 3 })) ∷ Ok nothing ∷ [] }
     ensures no_classes { argument_of Classes [] (record { from = 0; to = 0; first_cut = 0; rest_cut = 0 }) ≡ Ok nothing }
 {}
 
@@ -325,7 +333,11 @@ pub fn places()
         ≡ "raw" ∷ [] }
     ensures include { map (λ empty. option_map (λ k. content_fault k empty Body false) (directive_named all_parts (codes "include") true)) (true ∷ false ∷ [])
         ≡ Some (Some Disabled) ∷ Some (Some (Inside ContentNotPermitted)) ∷ [] }
-    ensures raw_file { map (λ o. file_fault ((o, plain (codes "a")) ∷ [])) (File ∷ Url ∷ Class ∷ []) ≡ Some Disabled ∷ Some Disabled ∷ None ∷ [] }
+    ensures raw_file { map (λ o. option_fault true ((o, plain (codes "a")) ∷ [])) (File ∷ Url ∷ Class ∷ []) ≡ Some Disabled ∷ Some Disabled ∷ None ∷ [] }
+    ensures lone_subtitle { map (λ titled. option_fault titled ((Class, classed []) ∷ (Subtitle, plain (codes "a")) ∷ [])) (false ∷ true ∷ [])
+        ≡ Some LoneSubtitle ∷ None ∷ [] }
+    ensures sidebar { map (λ place. option_map (λ k. content_fault k false place false) (directive_named all_parts (codes "sidebar") true)) (Sections ∷ Body ∷ [])
+        ≡ Some None ∷ Some (Some SidebarNotHere) ∷ [] }
     ensures two_paragraphs { option_map (λ k. content_fault k false Body false) (directive_named no_parts (codes "replace") true)
         ≡ Some (Some (Inside NotOneParagraph)) }
 {}
@@ -385,6 +397,9 @@ pub fn directives()
     ensures argument_before_content { directive_at false (block (".. image::" ∷ "   :alt: a" ∷ "" ∷ "   b"
         ∷ [])) 0 (record { name = record { from = 3; to = 8 }; block = record { from = 1; to = 4; first_cut = 3; rest_cut = 3 } }) Body false
         ≡ wrong (inside no_argument) (record { from = 0; to = 4; first_cut = 0; rest_cut = 0 }) }
+    ensures subtitle_before_content { directive_of (directive_named all_parts (codes "sidebar") true) (block (".. sidebar::" ∷ "   :subtitle: a"
+        ∷ [])) 0 (record { from = 1; to = 2; first_cut = 3; rest_cut = 3 }) Body false
+        ≡ wrong lone_subtitle (record { from = 0; to = 2; first_cut = 0; rest_cut = 0 }) }
     ensures options_before_content { directive_at false (block (".. topic::" ∷ "   :foo:"
         ∷ [])) 0 (record { name = record { from = 3; to = 8 }; block = record { from = 1; to = 2; first_cut = 3; rest_cut = 3 } }) Body false
         ≡ wrong (inside (unknown (codes "foo"))) (record { from = 0; to = 2; first_cut = 0; rest_cut = 0 }) }
@@ -402,6 +417,8 @@ pub fn messages()
         ∷ codes "may contain a single paragraph only." ∷ [] }
     ensures without_content { fault_text no_content (codes "tip") ≡ codes "Content block expected for the \"tip\" directive; none found." }
     ensures topic { fault_text topic_not_here (codes "topic") ≡ codes "The \"topic\" directive may not be used within topics or body elements." }
+    ensures sidebar { fault_text sidebar_not_here (codes "Sidebar") ≡ codes "The \"Sidebar\" directive may not be used within topics or body elements." }
+    ensures subtitle { fault_text lone_subtitle (codes "sidebar") ≡ codes "The \"subtitle\" option may not be used without a title." }
     ensures replacement { fault_text replace_not_here (codes "replace")
         ≡ codes "Invalid context: the \"replace\" directive can only be used within a substitution definition." }
     ensures disabled { fault_text disabled (codes "include") ≡ codes "\"include\" directive disabled." }

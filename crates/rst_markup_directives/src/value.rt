@@ -14,7 +14,7 @@ use std::alloc::{AllocError, Global};
 /// What the value of an option means.
 #[derive(Debug, Drop)]
 pub enum OptionValue {
-    /// The text of `alt`, `file` and `url`, and of the options that `include` alone has.
+    /// The text of `alt`, `subtitle`, `file` and `url`, and of the options that `include` alone has.
     Text(String),
     /// The measure of `height`, `width` and `figwidth`.
     Measure(String),
@@ -66,7 +66,7 @@ pub(crate) fn option_value(
             let text = text_from(alloc, value)?;
             Ok(Some(OptionValue::Name(name_of(alloc, text.as_str())?)))
         }
-        OptionName::File | OptionName::Url => {
+        OptionName::Subtitle | OptionName::File | OptionName::Url => {
             if is_empty_text(value) {
                 return Ok(None);
             }

@@ -247,6 +247,30 @@ pub fn directives()
         ∷ "    <image scale=\"50\" uri=\"a.png\">" ∷ []) }
 {}
 
+/// Sidebars (Directives, 'Sidebar').
+pub fn sidebars()
+    ensures titled { MeansWider (".. sidebar:: A" ∷ "   :subtitle: *b*" ∷ "   :class: c" ∷ "" ∷ "   d" ∷ []) 0
+        ("<document> 0" ∷ "    <sidebar classes=\"c\"> 1" ∷ "        <title> 1" ∷ "            A" ∷ "        <subtitle> 1" ∷ "            <emphasis> 1"
+        ∷ "                b" ∷ "        <paragraph> 5" ∷ "            d" ∷ []) }
+    ensures messages { MeansWider (".. sidebar:: *a" ∷ "   :subtitle: *b" ∷ "" ∷ "   c" ∷ []) 2
+        ("<document> 0" ∷ "    <sidebar> 1" ∷ "        <title text_messages=\"1\"> 1" ∷ "            <problematic message=\"0\"> 1" ∷ "                *"
+        ∷ "            a" ∷ "        <subtitle text_messages=\"1\"> 1" ∷ "            <problematic message=\"1\"> 1" ∷ "                *"
+        ∷ "            b" ∷ "        <system_message level=\"2\" message=\"0\"> 1" ∷ "            <paragraph> 1"
+        ∷ "                Inline emphasis start-string without end-string." ∷ "        <system_message level=\"2\" message=\"1\"> 1"
+        ∷ "            <paragraph> 1" ∷ "                Inline emphasis start-string without end-string." ∷ "        <paragraph> 4" ∷ "            c" ∷ []) }
+    ensures without_a_title { MeansWider (".. sidebar::" ∷ "   :name: A b" ∷ "" ∷ "   c" ∷ []) 0
+        ("<document> 0" ∷ "    <sidebar own_name=\"a b\"> 1" ∷ "        <paragraph> 4" ∷ "            c" ∷ []) }
+    ensures subtitle_without_a_title { MeansWider (".. sidebar::" ∷ "   :subtitle: a" ∷ []) 0
+        ("<document> 0" ∷ "    <system_message level=\"3\"> 1" ∷ "        <paragraph> 1"
+        ∷ "            The \"subtitle\" option may not be used without a title." ∷ "        <literal_block xml:space=\"preserve\"> 1"
+        ∷ "            .. sidebar::" ∷ "               :subtitle: a" ∷ []) }
+    ensures in_an_item { MeansWider ("- .. Sidebar:: a" ∷ "" ∷ "     b" ∷ []) 0
+        ("<document> 0" ∷ "    <bullet_list bullet=\"-\"> 1" ∷ "        <list_item> 1" ∷ "            <system_message level=\"3\"> 1"
+        ∷ "                <paragraph> 1" ∷ "                    The \"Sidebar\" directive may not be used within topics or body elements."
+        ∷ "                <literal_block xml:space=\"preserve\"> 1" ∷ "                    .. Sidebar:: a" ∷ "                    "
+        ∷ "                       b" ∷ []) }
+{}
+
 /// Directives of the wider profile (Directives, 'Rubric', 'Parsed Literal Block', 'Raw Data Pass-Through', 'Including an External Document
 /// Fragment', 'Compound Paragraph', 'Container'), and a blank line after the first line of a directive (Markup Specification, 'Directives').
 pub fn wider()

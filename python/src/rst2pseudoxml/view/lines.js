@@ -7,7 +7,7 @@ const TEXTUAL = new Set(("address attribution author caption classifier comment 
 const UNBROKEN = new Set("attribution caption doctest_block line paragraph subtitle title".split(" ")); // they end before a blank line
 const OF_ONE_LINE = new Set("classifier colspec field_name label option option_argument option_group option_string term transition".split(" "));
 const EXPLICIT = new Set(("admonition attention caution citation comment compound container danger error figure footnote hint image important " +
-  "literal_block note raw rubric substitution_definition target tip topic warning").split(" "));
+  "literal_block note raw rubric sidebar substitution_definition target tip topic warning").split(" "));
 const GRID = /^\+-[-+]+-\+$/, SIMPLE = /^=+( +=+)+$/; // the borders at which a table begins
 const [BLOCK, INLINE, MESSAGE] = [0, 1, 2];
 

@@ -12,5 +12,6 @@ returns c = record {
   with_formats = refl;
   blank_lines_in_a_text = refl;
   with_classes = refl;
+  with_a_title_or_not = refl;
   no_classes = refl;
 }

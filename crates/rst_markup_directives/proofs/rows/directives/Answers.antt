@@ -11,5 +11,6 @@ returns c = record {
   code_in_the_next_line = refl;
   content_of_an_image = refl;
   argument_before_content = refl;
+  subtitle_before_content = refl;
   options_before_content = refl;
 }

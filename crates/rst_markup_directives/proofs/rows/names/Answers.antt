@@ -13,6 +13,7 @@ returns c = record {
   no_code = refl;
   case_of_letters = refl;
   further = refl;
+  sidebar = refl;
   without_their_part = refl;
   wider = refl;
   left_out = refl;

@@ -7,6 +7,9 @@ unfolding rst_markup_directives
 returns c = record {
   each = refl;
   inclusion = refl;
+  subtitle = refl;
+  of_a_sidebar = refl;
+  subtitles = refl;
   case_of_letters = refl;
   image = refl;
   figure = refl;

@@ -18,5 +18,7 @@ returns c = record {
   further_in_a_definition = refl;
   include = refl;
   raw_file = refl;
+  lone_subtitle = refl;
+  sidebar = refl;
   two_paragraphs = refl;
 }

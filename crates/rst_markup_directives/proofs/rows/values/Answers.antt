@@ -11,6 +11,7 @@ returns c = record {
   alt = refl;
   name = refl;
   file = refl;
+  subtitle = refl;
   height = refl;
   width = refl;
   figure_width = refl;
