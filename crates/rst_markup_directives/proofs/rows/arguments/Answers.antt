@@ -11,6 +11,7 @@ returns c = record {
   with_language = refl;
   with_formats = refl;
   blank_lines_in_a_text = refl;
+  blank_lines_in_verse = refl;
   with_classes = refl;
   no_classes = refl;
 }
