@@ -1,11 +1,11 @@
 -- Formulas that are being made: parts of a text between pairs of line feeds, and the formulas of those that come next.
-use Rattle.std.proofs.Common.{◌≡◌, ℕ, ◌+◌, ◌-◌, ◌<◌, ◌≤◌, ◌==◌, ◌&&◌, Bool, true, false, List, [], ◌∷◌, ◌++◌, length, take, drop, length-drop, Option, None, Some, refl, sym, ap, ◌∙◌, subst, arith, append_assoc}
-use Rattle.std.specs.Prelude.{encode_utf8_all, nat_lt}
+use Rattle.std.proofs.Common.{◌≡◌, ℕ, ◌+◌, ◌-◌, ◌<◌, ◌≤◌, ◌==◌, ◌&&◌, Bool, true, false, List, [], ◌∷◌, ◌++◌, length, take, drop, length-drop, Option, None, Some, refl, sym, ap, ◌∙◌, subst, arith, append_assoc, inl, inr}
+use Rattle.std.specs.Prelude.{encode_utf8_all}
 use Rattle.std.specs.List.{onto_first}
 use Rattle.std.specs.Str.{IsUtf8, chars}
 use Rattle.std.specs.Str.Pattern.{FindsText, SplitsAroundMatch}
 use Rattle.std.proofs.Math.Seq.{drop-append_seam, take-append_seam}
-use Rattle.std.proofs.lemmas.Bool.{cond_both, eqb-true}
+use Rattle.std.proofs.lemmas.Bool.{cases_lt, cond_both, eqb-true}
 use Rattle.std.proofs.lemmas.List.{length-append, take-append-drop, take-append-le}
 use Rattle.std.proofs.lemmas.Str.{chars-append, encodes-append, encodes-chars, length-le-encodes}
 use Rattle.rst_tree.specs.declared.node.Node.{Node}
@@ -30,10 +30,6 @@ one_part (c ∷ d ∷ cs) h =
     (λ e. let p = pair_is c d e in absurd (h [] cs (ap (λ a. a ∷ d ∷ cs) p.0 ∙ ap (λ b. 10 ∷ b ∷ cs) p.1)))
     (λ e. ap (onto_first c) (one_part (d ∷ cs) (λ xs ys k. h (c ∷ xs) ys (ap (λ ts. c ∷ ts) k))))
 
--- what isn't less
-by_cases : (m n : ℕ) → (m < n → n ≤ m) → n ≤ m
-by_cases m n h = cond_both (nat_lt m n) tt tt (λ _. n ≤ m) (λ e. h (omega (arith, e))) (λ e. omega (arith, e))
-
 -- no pair begins before the end of a text xs that a pair and ys follow
 abbrev NoneBefore : List ℕ → List ℕ → Type 0
 NoneBefore xs ys = (bs ds : List ℕ) → xs ++ 10 ∷ 10 ∷ ys ≡ bs ++ 10 ∷ 10 ∷ ds → length xs ≤ length bs
@@ -54,17 +50,19 @@ first_part (c ∷ d ∷ cs) ys h =
     (λ e. ap (onto_first c) (first_part (d ∷ cs) ys (none_after c (d ∷ cs) ys h)))
 
 -- a text whose characters have a pair has one behind the bytes of those before it
+bytes_are : (t xs ys : List ℕ) → IsUtf8 t → chars t ≡ xs ++ 10 ∷ 10 ∷ ys → t ≡ encode_utf8_all xs ++ 10 ∷ 10 ∷ encode_utf8_all ys
+unfolding lib.Utf8.encode
+bytes_are t xs ys u e = sym (encodes-chars t u) ∙ ap encode_utf8_all e ∙ encodes-append xs (10 ∷ 10 ∷ ys)
+
 found_at : (t xs ys : List ℕ) → IsUtf8 t → chars t ≡ xs ++ 10 ∷ 10 ∷ ys → drop (length (encode_utf8_all xs)) t ≡ (10 ∷ 10 ∷ []) ++ encode_utf8_all ys
-found_at t xs ys u e =
-    let whole : t ≡ encode_utf8_all xs ++ 10 ∷ 10 ∷ encode_utf8_all ys = sym (encodes-chars t u) ∙ ap encode_utf8_all e ∙ encodes-append xs (10 ∷ 10 ∷ ys) in
-    ap (drop (length (encode_utf8_all xs))) whole ∙ drop-append_seam (encode_utf8_all xs) (10 ∷ 10 ∷ encode_utf8_all ys)
+found_at t xs ys u e = ap (drop (length (encode_utf8_all xs))) (bytes_are t xs ys u e) ∙ drop-append_seam (encode_utf8_all xs) (10 ∷ 10 ∷ encode_utf8_all ys)
 
 -- no pair is found in a text
 pub last_part : (t : List ℕ) → IsUtf8 t → FindsText (10 ∷ 10 ∷ []) t None → parts_of (chars t) ≡ chars t ∷ []
 last_part t u none = one_part (chars t) (λ xs ys e. none (length (encode_utf8_all xs)) (within xs ys e) (encode_utf8_all ys) (found_at t xs ys u e))
   where
     within : (xs ys : List ℕ) → chars t ≡ xs ++ 10 ∷ 10 ∷ ys → length (encode_utf8_all xs) ≤ length t
-    within xs ys e = omega (arith, ap length (sym (encodes-chars t u) ∙ ap encode_utf8_all e ∙ encodes-append xs (10 ∷ 10 ∷ ys)), length-append (encode_utf8_all xs) (10 ∷ 10 ∷ encode_utf8_all ys))
+    within xs ys e = omega (arith, ap length (bytes_are t xs ys u e), length-append (encode_utf8_all xs) (10 ∷ 10 ∷ encode_utf8_all ys))
 
 -- the bytes of fewer characters at the front of a text are fewer
 fewer : (xs ys bs ds : List ℕ) → xs ++ ys ≡ bs ++ ds → length bs ≤ length xs → length (encode_utf8_all bs) + (length xs - length bs) ≤ length (encode_utf8_all xs)
@@ -75,15 +73,21 @@ fewer xs ys bs ds e l =
     ap encode_utf8_all (sym (take-append-drop n xs) ∙ ap (λ ts. ts ++ drop n xs) front) ∙ encodes-append bs (drop n xs) in
     omega (arith, ap length whole, length-append (encode_utf8_all bs) (encode_utf8_all (drop n xs)), length-le-encodes (drop n xs), length-drop n xs)
 
+two_feeds : (back : List ℕ) → chars (10 ∷ 10 ∷ back) ≡ 10 ∷ 10 ∷ chars back
+unfolding chars lib.Utf8.encode
+two_feeds back = chars-append (10 ∷ 10 ∷ []) back (10 ∷ 10 ∷ [], (refl, refl))
+
 -- the first pair of a text is found between two others
 pub next_part : (t front back : List ℕ) → IsUtf8 t → IsUtf8 front → SplitsAroundMatch (FindsText (10 ∷ 10 ∷ [])) t front back → parts_of (chars t) ≡ chars front ∷ parts_of (chars back)
-next_part t front back u f (i, (j, ((earlier, has), (is_front, (is_back, (ordered, (count, rest))))))) =
-    let whole : t ≡ front ++ 10 ∷ 10 ∷ back = sym (take-append-drop i t) ∙ ap (λ x. x ++ drop i t) (sym is_front) ∙ ap (λ y. front ++ y) (has.split ∙ ap (λ y. 10 ∷ 10 ∷ y) (sym is_back)) in
-    let characters : chars t ≡ chars front ++ 10 ∷ 10 ∷ chars back = ap chars whole ∙ chars-append front (10 ∷ 10 ∷ back) f in
+next_part t front back u f (i, j, found, is_front, is_back, ordered, count, rest) =
+    let whole : t ≡ front ++ 10 ∷ 10 ∷ back = sym (take-append-drop i t) ∙ ap (λ x. x ++ drop i t) (sym is_front) ∙ ap (λ y. front ++ y) (found.1.split ∙ ap (λ y. 10 ∷ 10 ∷ y) (sym is_back)) in
+    let characters : chars t ≡ chars front ++ 10 ∷ 10 ∷ chars back = ap chars whole ∙ chars-append front (10 ∷ 10 ∷ back) f ∙ ap (λ cs. chars front ++ cs) (two_feeds back) in
     let lacks : (bs ds : List ℕ) → chars front ++ 10 ∷ 10 ∷ chars back ≡ bs ++ 10 ∷ 10 ∷ ds → length (encode_utf8_all bs) < i → ⊥ =
-    λ bs ds e l. earlier (length (encode_utf8_all bs)) l (encode_utf8_all ds) (found_at t bs ds u (characters ∙ e)) in
-    ap parts_of characters ∙ first_part (chars front) (chars back) (λ bs ds e. by_cases (length bs) (length (chars front)) (λ l. absurd (lacks bs ds e
-    (omega (arith, l, fewer (chars front) (10 ∷ 10 ∷ chars back) bs (10 ∷ 10 ∷ ds) e (omega (arith, l)), ap length (encodes-chars front f), count)))))
+    λ bs ds e l. found.0 (length (encode_utf8_all bs)) l (encode_utf8_all ds) (found_at t bs ds u (characters ∙ e)) in
+    ap parts_of characters ∙ first_part (chars front) (chars back) (λ bs ds e. elim (cases_lt (length bs) (length (chars front))) [
+      | inl under ↦ absurd (lacks bs ds e (omega (arith, under, fewer (chars front) (10 ∷ 10 ∷ chars back) bs (10 ∷ 10 ∷ ds) e (omega (arith, under)), ap length (encodes-chars front f), count)))
+      | inr over ↦ over
+    ])
 
 -- ---- formulas
 

@@ -1,5 +1,5 @@
 //! Formulas.
-ghost use Rattle.std.specs.Prelude.{◌≡◌, IfOk};
+ghost use Rattle.std.specs.Prelude.{◌≡◌, ℕ, List, ◌∷◌, ◌++◌, IfOk};
 ghost use Rattle.std.specs.Str.{chars};
 ghost use Rattle.rst_markup_directives.specs.Options.{choices_in};
 ghost use Rattle.rst_block_nodes.specs.Formulas as spec;
@@ -33,6 +33,13 @@ pub fn formulas(
     Ok(nodes)
 }
 
+/// What the options give attributes to after some formulas.
+fn holder_after(formulas: &[Node]) -> Holder
+    ensures { result ≡ spec.holder_after formulas.now }
+{
+    formulas.first().map_or(Holder::Body, |_| Holder::Further)
+}
+
 /// Puts the formula of a text after others, unless the text is empty.
 fn add_formula(
     alloc: Global,
@@ -42,18 +49,14 @@ fn add_formula(
     text: &str,
     line: usize,
 ) -> Result<()>
-    ensures { IfOk result (λ _. nodes.new.items ≡ spec.with_formula element (choices_in options.now) line nodes.old.items (chars text.now)) }
+    ensures { IfOk result (λ _. (parts : List (List ℕ)) → nodes.new.items ++ spec.formulas_from (spec.holder_after nodes.new.items) element (choices_in options.now) line parts
+        ≡ nodes.old.items ++ spec.formulas_from (spec.holder_after nodes.old.items) element (choices_in options.now) line (chars text.now ∷ parts)) }
 {
     if text.is_empty() {
         return Ok(());
     }
-    let holder = if nodes.is_empty() {
-        Holder::Body
-    } else {
-        Holder::Further
-    };
     let mut attrs = preserving(alloc)?;
-    set_options(alloc, &mut attrs, holder, options)?;
+    set_options(alloc, &mut attrs, holder_after(nodes), options)?;
     nodes.push(element_of(element, attrs, text_nodes(alloc, text)?, line))?;
     Ok(())
 }

@@ -3,7 +3,7 @@ use Rattle.rst_tree.specs.declared.node.Node.{Node}
 use Rattle.rst_markup_directives.specs.Options.{choices_in}
 use Rattle.rst_block_nodes.specs.Options.{with_options}
 use Rattle.rst_block_state.specs.Numbered.{then_read, just}
-use Rattle.rst_block_markup.proofs.directive.text_element.Goals as goal
+use Rattle.rst_block_markup.proofs.closed.text_element.Goals as goal
 
 pub returns-clause-read : goal.returns-clause-read
 returns-clause-read c =
