@@ -91,16 +91,22 @@ next_part t front back u f (i, j, found, is_front, is_back, ordered, count, rest
 
 -- ---- formulas
 
+-- a text that isn't empty has characters
+pub no_text : (t : List ℕ) → IsUtf8 t → (length t == 0) ≡ false → chars t ≡ [] → ⊥
+no_text t u some none =
+    let empty : t ≡ [] = sym (encodes-chars t u) ∙ ap encode_utf8_all none in
+    let no : true ≡ false = ap (λ (t : List ℕ). length t == 0) (sym empty) ∙ some in cc
+
 module _ (element : Tag) (choices : List OptionSetting) (line : ℕ) where
   after_more : (ns : List Node) (node : Node) → holder_after (ns ++ node ∷ []) ≡ Further
   after_more [] node = refl
   after_more (n ∷ ns) node = refl
 
   -- a formula comes after others
-  pub formula_added : (ns : List Node) (t : List ℕ) (node : Node) → 0 < length t → node ≡ formula (holder_after ns) element choices line t → (parts : List (List ℕ))
+  pub formula_added : (ns : List Node) (t : List ℕ) (node : Node) → (t ≡ [] → ⊥) → node ≡ formula (holder_after ns) element choices line t → (parts : List (List ℕ))
       → (ns ++ node ∷ []) ++ formulas_from (holder_after (ns ++ node ∷ [])) element choices line parts ≡ ns ++ formulas_from (holder_after ns) element choices line (t ∷ parts)
-  formula_added ns [] node l e parts = absurd (omega (arith, l))
-  formula_added ns (c ∷ cs) node l e parts =
+  formula_added ns [] node some e parts = absurd (some refl)
+  formula_added ns (c ∷ cs) node some e parts =
       ap (λ h. (ns ++ node ∷ []) ++ formulas_from h element choices line parts) (after_more ns node)
       ∙ append_assoc ns (node ∷ []) (formulas_from Further element choices line parts)
       ∙ ap (λ n. ns ++ n ∷ formulas_from Further element choices line parts) e

@@ -6,7 +6,7 @@
 mod contents;
 mod directives;
 mod fault;
-mod formulas;
+mod formula;
 mod heading;
 mod images;
 mod labels;
@@ -28,7 +28,7 @@ mod values;
 pub use contents::{append, completed, filled};
 pub use directives::{directive_element, literal_block, with_options, with_title_class};
 pub use fault::BlockFault;
-pub use formulas::formulas;
+pub use formula::formulas;
 pub use heading::{Heading, Style};
 pub use images::{figure, image};
 pub use labels::{citation, footnote};

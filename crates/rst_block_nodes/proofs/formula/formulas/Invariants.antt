@@ -2,7 +2,7 @@ use Rattle.std.proofs.Common.{◌≡◌, ◌++◌, length}
 use Rattle.std.specs.Str.{IsUtf8, chars}
 use Rattle.rst_markup_directives.specs.Options.{choices_in}
 use Rattle.rst_block_nodes.specs.Formulas.{formulas, formulas_from, holder_after, parts_of}
-use Rattle.rst_block_nodes.proofs.formulas.formulas.Given as goal
+use Rattle.rst_block_nodes.proofs.formula.formulas.Given as goal
 
 abbrev pub invariant-loop-part : goal.invariant-loop-part
 invariant-loop-part l =

@@ -5,7 +5,7 @@ use Rattle.std.proofs.lemmas.Option.{MatchOption-at_none}
 use Rattle.rst_markup_directives.specs.Options.{choices_in}
 use Rattle.rst_block_nodes.specs.Formulas.{formulas_from, holder_after, parts_of}
 use Rattle.rst_block_nodes.proofs.FormulaLemmas.{last_part, next_part}
-use Rattle.rst_block_nodes.proofs.formulas.formulas.Goals as goal
+use Rattle.rst_block_nodes.proofs.formula.formulas.Goals as goal
 
 pub loop-part-preserved : goal.loop-part-preserved
 loop-part-preserved c =
