@@ -1,6 +1,7 @@
 pub mod ContentFacts
 pub mod DirectiveFlags
 pub mod DirectiveReads
+pub mod ClosedReads
 pub mod VerseLemmas
 pub mod DirectivesPaid
 pub mod MarkupPaid

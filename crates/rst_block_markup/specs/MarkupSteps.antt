@@ -2,7 +2,7 @@
 use Rattle.std.specs.declared.vec.Vec.{Vec}
 use Rattle.std.specs.Prelude.{◌≡◌, ℕ, ◌+◌, ◌-◌, ◌<◌, length, drop, unwrap_or, Bool, true, false, List, [], ◌∷◌, Option, Some, None, Result, Ok, IfOk, if◌then◌else◌}
 use Rattle.rst_settings.specs.declared.Parts.{Parts}
-use Rattle.rst_text.specs.Block.{Block, first_number}
+use Rattle.rst_text.specs.Block.{Block, Line, first_number}
 use Rattle.rst_tree.specs.declared.node.Node.{Node}
 use Rattle.rst_markup_directives.specs.Argument.{ArgumentMeaning, given_in}
 use Rattle.rst_markup_directives.specs.Call.{IsContentIn}
@@ -110,10 +110,14 @@ text_lines f = argument_lines f.argument + (f.content.first.to - f.content.first
 abbrev pub HoldsNodes : {A : Type 0} → Numbered (List Node) → ℕ → ℕ → Vec Node A → Type 0
 HoldsNodes nodes number next made = nodes number ≡ Ok (made.items, next)
 
--- lines of a line block, as they are kept, are these lines of verse
+-- a line of a line block, as it is kept, is this line of verse
+abbrev pub IsVerse : BarText → Line → Type 0
+IsVerse bar l = (last : ℕ) → indented_by (unwrap_or bar.indent last) bar ≡ verse_line last l
+
+-- so are all of some lines
 abbrev pub AreVerse : List BarText → Block → Type 0
 AreVerse [] [] = Unit {0}
-AreVerse (bar ∷ bars) (l ∷ ls) = ((last : ℕ) → indented_by (unwrap_or bar.indent last) bar ≡ verse_line last l) × AreVerse bars ls
+AreVerse (bar ∷ bars) (l ∷ ls) = IsVerse bar l × AreVerse bars ls
 AreVerse bars B = ⊥
 
 -- the element of a directive that has this text with inline markup, and the messages on the text

@@ -1,13 +1,12 @@
 //! Directives that hold no blocks: images and texts (Directives, 'Image', 'Code', 'Rubric', 'Line Block', 'Parsed Literal Block', 'Math').
-ghost use Rattle.std.specs.Prelude.{◌≡◌, ℕ, suc, ◌+◌, ◌-◌, ◌∷◌, ◌++◌, length, string_bytes, drop, option_map, unwrap_or, Ok, IfOk};
+ghost use Rattle.std.specs.Prelude.{◌≡◌, suc, ◌+◌, ◌-◌, ◌<◌, ◌∷◌, ◌++◌, length, string_bytes, drop, option_map, Ok, IfOk};
 ghost use Rattle.std.specs.Str.{chars};
-ghost use Rattle.rst_text.specs.Block.{Block, first_number};
+ghost use Rattle.rst_text.specs.Block.{Block, Line, first_number};
 ghost use Rattle.rst_text.specs.Looked.{Looked};
 ghost use Rattle.rst_text.specs.ViewBlock.{block_of};
-ghost use Rattle.rst_block_nodes.specs.LineBlocks.{indented_by};
 ghost use Rattle.rst_block_state.specs.Directives as meaning;
-ghost use Rattle.rst_block_state.specs.LineRuns.{verse_line};
-ghost use Rattle.rst_block_markup.specs.MarkupSteps.{AreVerse, HoldsNodes, marked_text, read_of_directive, text_lines};
+ghost use Rattle.rst_block_state.specs.LineRuns.{white_len};
+ghost use Rattle.rst_block_markup.specs.MarkupSteps.{AreVerse, HoldsNodes, IsVerse, marked_text, read_of_directive, text_lines};
 ghost use Rattle.rst_block_state.specs.machine.Meanings.{Keeps, deepest};
 ghost use Rattle.rst_markup_directives.specs.Call.{IsArgumentIn, IsContentIn};
 ghost use Rattle.rst_block_state.specs.machine.OpenBlocks.{Gives};
@@ -173,12 +172,12 @@ fn line_of_text(
     looks: &mut Looks,
 ) -> Result<BarText, AllocError>
     requires { at < length (block_of view.now) }
-    ensures line { IfOk result (λ text. (last : ℕ) → indented_by (unwrap_or text.indent last) text ≡ verse_line last (slice_index (block_of view.now) at)) }
+    ensures line { IfOk result (λ text. (l : Line) (ls : Block) → l ∷ ls ≡ drop at (block_of view.now) → IsVerse text l) }
     ensures looked { Looked 1 1 looks.old looks.new }
 {
     let text = view.line(at, looks);
     let line = view.number(at);
-    let white = text.chars().take_while(|c| is_white(*c)).count();
+    let white = white_len(text);
     Ok(BarText {
         indent: if is_blank(text) { None } else { Some(white) },
         line,
@@ -186,6 +185,13 @@ fn line_of_text(
         text: String::from_str(alloc, skip(text, white))?,
         parts: view.parts(at),
     })
+}
+
+/// How many white characters a text begins with.
+fn white_len(text: &str) -> usize
+    ensures { result ≡ white_len (chars text.now) }
+{
+    text.chars().take_while(|c| is_white(*c)).count()
 }
 
 /// The text of a directive's content: the lines before the options, and those after them.
