@@ -465,6 +465,60 @@ Instead, use the "role" directive to create a new role with an associated format
 """,
     ),
     (
+        "a line block by its directive",
+        ".. line-block:: a\n   :class: verse\n   :name: Here\n\n     b *c*\n\n   `d`\n",
+        """\
+<document source="<stdin>">
+    <line_block classes="verse" ids="here" names="here">
+        <line>
+            a
+        <line>
+        <line_block>
+            <line>
+                b 
+                <emphasis>
+                    c
+            <line>
+        <line>
+            <title_reference>
+                d
+""",
+        "",
+    ),
+    (
+        "a message in a line block",
+        ".. line-block::\n   *a\n",
+        """\
+<document source="<stdin>">
+    <line_block>
+        <line>
+            <problematic ids="problematic-1" refid="system-message-1">
+                *
+            a
+    <system_message backrefs="problematic-1" ids="system-message-1" level="2" line="2" source="<stdin>" type="WARNING">
+        <paragraph>
+            Inline emphasis start-string without end-string.
+""",
+        """\
+<stdin>:2: (WARNING/2) Inline emphasis start-string without end-string.
+""",
+    ),
+    (
+        "formulas",
+        ".. math:: a\n   :class: k\n   :name: Here\n\n   b &= \\alpha \\\\\n   c *d*\n\n   e\n",
+        """\
+<document source="<stdin>">
+    <math_block classes="k" ids="here" names="here" xml:space="preserve">
+        a
+    <math_block classes="k" xml:space="preserve">
+        b &= \\alpha \\\\
+        c *d*
+    <math_block classes="k" xml:space="preserve">
+        e
+""",
+        "",
+    ),
+    (
         "a blank line after a directive's first",
         ".. note::\n\n   :class: x\n\n   t\n",
         """\

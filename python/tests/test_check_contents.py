@@ -112,9 +112,9 @@ class Contents(Checking):
             self.assertEqual(self.faults(indented.format("", "*x")), [EMPHASIS.format("", line)[1:] for line in (3, 11)])
         self.finds("- a\n\n  .. parsed-literal::\n\n    a *fault\n\n    b\n\n    - c\n\n  d\n")
         self.finds(".. line-block::\n   :name: x\n\n   a *fault\n     b x_\n")
-        self.assertEqual(self.faults(".. line-block::\n\nend\n"), [])
-        self.assertEqual(self.faults(".. parsed-literal::\n\nend\n")[0].partition(") ")[2].partition(";")[0],
-                         'Content block expected for the "parsed-literal" directive')  # it is read by the wider profile
+        for name in ("line-block", "parsed-literal"):  # they are read by the wider profile
+            self.assertEqual(self.faults(f".. {name}::\n\nend\n")[0].partition(") ")[2].partition(";")[0],
+                             f'Content block expected for the "{name}" directive')
 
     def test_field_lists(self):
         self.finds(".. function:: f(a)\n   :noindex:\n\n   :param a: *fault\n   :class: b\n")

@@ -94,7 +94,7 @@ module _ (P : Block → Type 0) (agree : CallsAgreeUnder P) (opened : OpenedKeep
 
     found_again : (f : Found) (n : ℕ) → Alike false (piece_of c B f n) (piece_of d B f n)
     found_again f n =
-        piece_alike false false true titles levels more g h B f n (agree B f.span.start keeps) (all_again P g h reads _ (opened c B f keeps)) (all_again P g h reads _ (cells B f keeps))
+        piece_alike false false true titles levels more (lines_again levels more within) g h B f n (agree B f.span.start keeps) (all_again P g h reads _ (opened c B f keeps)) (all_again P g h reads _ (cells B f keeps))
 
     whole_again : (what : Construct) (run : Run Found) (items : List Item) (n : ℕ) → Alike false (whole_by what c B run items n) (whole_by what d B run items n)
     whole_again (bar_line m) run items n =

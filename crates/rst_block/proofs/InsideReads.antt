@@ -18,6 +18,8 @@ use Rattle.rst_markup_directives.specs.Argument.{ArgumentMeaning, title, uri}
 use Rattle.rst_markup_directives.specs.Directive.{Read, Outcome, directive_at, found, wrong}
 use Rattle.rst_markup_directives.specs.Kind.{has_blocks}
 use Rattle.rst_markup_directives.specs.declared.found.Content.{Content}
+use Rattle.rst_markup_directives.specs.declared.kind.ContentKind.{ContentKind}
+use Rattle.rst_markup_directives.specs.declared.kind.ContentKind.TheVariants.{Verse}
 use Rattle.rst_markup_directives.specs.declared.found.Place.{Place}
 use Rattle.rst_markup_directives.specs.declared.found.Place.TheVariants.{Top, Body, Substitution as InDefinition}
 use Rattle.rst_markup_tables.specs.SimpleTable.{simple_table}
@@ -27,8 +29,9 @@ use Rattle.rst_markup_tables.specs.declared.results.TableResult.{TableResult}
 use Rattle.rst_markup_tables.specs.declared.results.TableResult.TheVariants.{Table, Malformed}
 use Rattle.rst_block_nodes.specs.Sections.{filled}
 use Rattle.rst_block_state.specs.Constructs.{ItemMark, bullet_item, enumerated_item, definition_item, field_item, option_item, Construct, nothing, block_quote, item_of_list, doctest_block, bar_line, grid, simple, explicit_markup, transition, overlined_title, misplaced_lines, underlined_title, paragraph, Found}
-use Rattle.rst_block_state.specs.Directives.{content_nodes, called, titled_start, opened_by as opened_nodes, directive_by, definition_or_error}
+use Rattle.rst_block_state.specs.Directives.{content_nodes, called, titled_start, opened_by as opened_nodes, directive_by, definition_or_error, closed_with, content_lines}
 use Rattle.rst_block_state.specs.Inside.{quoted_by, quoted, part_of_item, content_blocks, directive_blocks, markup_blocks, opened_by, opened_of, cell_blocks, cells_by, cells_with}
+use Rattle.rst_block_state.specs.LineRuns.{IndentedLine, line_block, verse_lines}
 use Rattle.rst_block_state.specs.Lists.{item_by, item_with}
 use Rattle.rst_block_state.specs.Markup.{markup_by}
 use Rattle.rst_block_state.specs.Nodes.{piece_by, piece_of, plainly}
@@ -83,7 +86,11 @@ same_calls code B i (Directive call) = λ place paragraph. refl
 same_calls code B i (Substitution name (Some call) end) = λ place paragraph. refl
 same_calls code B i _ = tt
 
-module _ (all code later titles : Bool) (levels more : ℕ) (g h : Block → Numbered (List Node)) where
+-- line blocks are read alike, where this many or that many may be nested
+abbrev pub NestAlike : Bool → ℕ → ℕ → Type 0
+NestAlike all levels more = (ls : List IndentedLine) (n : ℕ) → Alike all (line_block levels ls n) (line_block more ls n)
+
+module _ (all code later titles : Bool) (levels more : ℕ) (nest : NestAlike all levels more) (g h : Block → Numbered (List Node)) where
   abbrev c : Within
   c = record { titles = titles; code = code; levels = levels; inner = g }
 
@@ -156,18 +163,24 @@ module _ (all code later titles : Bool) (levels more : ℕ) (g h : Block → Num
   opened_alike (uri address) B line read lines n i = content_then B read.content _ n i
   opened_alike _ B line read lines n i = content_then B read.content _ n i
 
-  -- what holds blocks is read alike, and so is what holds none
-  blocks_alike : (B : Block) (content : Content) (some other closed : Numbered (List Node)) (n : ℕ) (b : Bool) → (Inside (content_blocks B content) → Alike all (some n) (other n)) → Inside (cond b (content_blocks B content) [])
-      → Alike all (cond b some closed n) (cond b other closed n)
-  blocks_alike B content some other closed n true h i = h i
-  blocks_alike B content some other closed n false h i = alike all _
+  -- so is one that holds none
+  closed_alike : (content : ContentKind) (B : Block) (line : ℕ) (read : Read) (n : ℕ) → Alike all (closed_with content levels B line read n) (closed_with content more B line read n)
+  closed_alike Verse B line read n =
+      let ls = verse_lines 0 (content_lines B read.content) in same_alike all (line_block levels ls n) (line_block more ls n) _ (nest ls n)
+  closed_alike _ B line read n = alike all _
+
+  -- what holds blocks is read alike where what holds none is
+  blocks_alike : (B : Block) (content : Content) (some other closed shut : Numbered (List Node)) (n : ℕ) (b : Bool) → (Inside (content_blocks B content) → Alike all (some n) (other n)) → Alike all (closed n) (shut n)
+      → Inside (cond b (content_blocks B content) []) → Alike all (cond b some closed n) (cond b other shut n)
+  blocks_alike B content some other closed shut n true h k i = h i
+  blocks_alike B content some other closed shut n false h k i = k
 
   directive_alike : (o : Outcome) (B : Block) (s : Span) (name : List ℕ) (n : ℕ) → Inside (directive_blocks o B) → Alike all (directive_by o c B s name n) (directive_by o d B s name n)
-  directive_alike (found read) B s name n i = blocks_alike B read.content _ _ _ n (has_blocks read.kind.content) (opened_alike read.argument B (first_number (drop s.start B)) read _ n) i
+  directive_alike (found read) B s name n i = blocks_alike B read.content _ _ _ _ n (has_blocks read.kind.content) (opened_alike read.argument B (first_number (drop s.start B)) read _ n) (closed_alike read.kind.content B (first_number (drop s.start B)) read n) i
   directive_alike (wrong fault part) B s name n i = alike all _
 
   holding_alike : (o : Outcome) (B : Block) (s : Span) (name written : List ℕ) (n : ℕ) → Inside (directive_blocks o B) → Alike all (definition_or_error o c B s name written n) (definition_or_error o d B s name written n)
-  holding_alike (found read) B s name written n i = blocks_alike B read.content _ _ _ n (has_blocks read.kind.content) (content_then B read.content _ n) i
+  holding_alike (found read) B s name written n i = blocks_alike B read.content _ _ _ _ n (has_blocks read.kind.content) (content_then B read.content _ n) (alike all _) i
   holding_alike (wrong fault part) B s name written n i = alike all _
 
   -- ---- explicit markup
@@ -240,4 +253,4 @@ module _ (all code later titles : Bool) (levels more : ℕ) (g h : Block → Num
   piece_alike B f n agree i k = construct_alike f.what B f.span (drop f.span.start B) n refl agree i k
 
 pub inside_is_read : InsideIsRead
-inside_is_read c g B f n h k = piece_alike true c.code c.code c.titles c.levels c.levels c.inner g B f n (same_calls c.code B f.span.start _) h k
+inside_is_read c g B f n h k = piece_alike true c.code c.code c.titles c.levels c.levels (λ ls n. refl) c.inner g B f n (same_calls c.code B f.span.start _) h k

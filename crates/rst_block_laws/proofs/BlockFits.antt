@@ -79,13 +79,13 @@ module _ (P : ℕ → Bool) (T : List ℕ → Type 0) (s : Suited P T) where
     Room j _ = m + 4 ≤ j
 
     piece_fits : (j : ℕ) (what : Construct) (g : Span) → Room j what → ConstructFits T what (drop g.start B) → Gives (ItemsFit T j) (piece_by what c B g (drop g.start B))
-    piece_fits j block_quote g r h = plainly_fit T (m + 2 + 2) j _ (omega arith) (quotes_fit P T s c (m + 2) (omega arith) more_inside _ _ (lines_kept P B (indented_part g.start (drop g.start B)) b))
-    piece_fits j (item_of_list mark) g r h = plainly_fit T (m + 2 + 2) j _ (omega arith) (item_fits P T s c (m + 2) (omega arith) more_inside B g.start mark (drop g.start B) b (all_drop _ g.start B b))
+    piece_fits j block_quote g r h = plainly_fit T (m + 2 + 2) j _ (omega arith) (quotes_fit P T s c (m + 2) (omega arith) (omega (arith, nested)) more_inside _ _ (lines_kept P B (indented_part g.start (drop g.start B)) b))
+    piece_fits j (item_of_list mark) g r h = plainly_fit T (m + 2 + 2) j _ (omega arith) (item_fits P T s c (m + 2) (omega arith) (omega (arith, nested)) more_inside B g.start mark (drop g.start B) b (all_drop _ g.start B b))
     piece_fits j doctest_block g r h = give (preserved_fits P T s j (omega arith) DoctestBlock (first_number (drop g.start B)) _ (λ c. refl) (source_has P T s B g b), tt)
     piece_fits j grid g r h = plainly_fit T (m + 5) j _ r (tables_fit P T s c m inside B g (grid_table B g.start) b (grid_kept P T s B g.start b))
     piece_fits j simple g r h = plainly_fit T (m + 5) j _ r (tables_fit P T s c m inside B g (simple_table B g.start) b (simple_kept P B g.start b))
     piece_fits j explicit_markup g r h =
-        plainly_fit T (m + 2 + 2) j _ (omega arith) (markup_fits P T s c (m + 2) (omega arith) more_inside (explicit_of g.start (drop g.start B)) B g (drop g.start B) b (all_drop _ g.start B b))
+        plainly_fit T (m + 2 + 2) j _ (omega arith) (markup_fits P T s c (m + 2) (omega arith) (omega (arith, nested)) more_inside (explicit_of g.start (drop g.start B)) B g (drop g.start B) b (all_drop _ g.start B b))
     piece_fits j transition g r h = give ((omega arith, (tt, tt)), tt)
     piece_fits j (overlined_title mark short) g r h =
         let X : Block = drop g.start B in

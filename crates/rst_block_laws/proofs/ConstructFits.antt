@@ -55,7 +55,7 @@ module _ (P : ℕ → Bool) (T : List ℕ → Type 0) (s : Suited P T) where
       let kept = all_take _ (length t - 2) t h in
       cond_both (ends_in_colons t) _ _ (Kept P) (λ e. cond_both _ _ _ (Kept P) (λ d. trailing_kept _ kept) (λ d. all_append _ (take (length t - 2) t) (58 ∷ []) kept (s.fixed 58 refl, tt))) (λ e. h)
 
-  module _ (c : Within) (k : ℕ) (some : 3 ≤ k) (inside : (B : Block) → BlockKept P B → Gives (AllFit T k) (c.inner B)) where
+  module _ (c : Within) (k : ℕ) (some : 3 ≤ k) (nested : c.levels + 2 ≤ k) (inside : (B : Block) → BlockKept P B → Gives (AllFit T k) (c.inner B)) where
     -- ---- block quotes
 
     quote_fits : (Q : Block) (others : Block → Numbered (List Node)) → ((R : Block) → BlockKept P R → Gives (AllFit T (k + 2)) (others R)) → (o : Option (ℕ × Attribution)) → BlockKept P Q
@@ -116,8 +116,8 @@ module _ (P : ℕ → Bool) (T : List ℕ → Type 0) (s : Suited P T) where
     markup_fits (Target name text) B g X b h =
         give (target_fits P T s (first_parts X).mail (k + 2) (omega arith) (Some (excerpt (first_text X) name)) _ (first_number X) (excerpt_has P T s (first_text X) name (first_kept P X h)) (spelled_has P T s (lines_in B text) (lines_kept P B text b)), tt)
     markup_fits (Anonymous text) B g X b h = give (target_fits P T s (first_parts X).mail (k + 2) (omega arith) None _ (first_number X) tt (spelled_has P T s (lines_in B text) (lines_kept P B text b)), tt)
-    markup_fits (Substitution name embedded end) B g X b h = substitution_fits P T s c k some inside B g (excerpt (first_text X) name) embedded b (excerpt_has P T s (first_text X) name (first_kept P X h))
-    markup_fits (Directive call) B g X b h = directive_fits P T s c k some inside B g call b
+    markup_fits (Substitution name embedded end) B g X b h = substitution_fits P T s c k some nested inside B g (excerpt (first_text X) name) embedded b (excerpt_has P T s (first_text X) name (first_kept P X h))
+    markup_fits (Directive call) B g X b h = directive_fits P T s c k some nested inside B g call b
     markup_fits (Comment text cause) B g X b h =
         give (preserved_fits P T s (k + 2) (omega arith) CommentTag (first_number X) _ (λ c. refl) (spelled_has P T s (lines_in B text) (lines_kept P B text b)), cause_fit P T s (k + 2) (omega arith) cause (first_number X))
     markup_fits EmptyComment B g X b h = give ((omega arith, ((tt, tt), tt)), tt)

@@ -1,6 +1,6 @@
 -- The nodes of directives and of substitution definitions have at most two levels more than the blocks inside, and their texts have a property.
 use Rattle.std.proofs.Common.{ℕ, ◌+◌, ◌≤◌, Bool, true, false, List, [], ◌∷◌, ◌++◌, drop, length, take, Option, None, Some, arith, refl}
-use Rattle.std.specs.Prelude.{codes, encode_utf8_all}
+use Rattle.std.specs.Prelude.{codes, encode_utf8_all, ◌&&◌, ◌==◌}
 use Rattle.std.specs.List.{AllByRecursion, fold}
 use Rattle.std.specs.Option.{IfSome, is_some, option_or}
 use Rattle.std.specs.Str.{chars}
@@ -25,25 +25,30 @@ use Rattle.rst_markup_blocks.specs.Partition.{Span}
 use Rattle.rst_markup_directives.specs.Argument.{ArgumentMeaning, title, uri, language, formats, classes}
 use Rattle.rst_markup_directives.specs.declared.found.Content.{Content}
 use Rattle.rst_markup_directives.specs.declared.found.Place.TheVariants.{Substitution}
+use Rattle.rst_markup_directives.specs.declared.kind.ContentKind.{ContentKind}
+use Rattle.rst_markup_directives.specs.declared.kind.ContentKind.TheVariants.{Marked, Verse, Formulas}
 use Rattle.rst_markup_directives.specs.declared.option.OptionName.{OptionName}
 use Rattle.rst_markup_directives.specs.declared.option.OptionName.TheVariants.{Name, Subtitle}
 use Rattle.rst_markup_directives.specs.Directive.{Read}
-use Rattle.rst_markup_directives.specs.Kind.{has_blocks, is_marked}
+use Rattle.rst_markup_directives.specs.Kind.{has_blocks}
 use Rattle.rst_markup_directives.specs.Message.{fault_level, fault_text}
 use Rattle.rst_markup_directives.specs.Options.{OptionSetting}
 use Rattle.rst_markup_directives.specs.Value.{Meaning}
 use Rattle.rst_markup_directives.specs.Wrong.{Fault, disabled, inside as within, invalid_classes, no_content, not_in_substitution, sidebar_not_here, unknown_directive}
 use Rattle.rst_block_nodes.specs.Admonitions.{title_class}
 use Rattle.rst_block_nodes.specs.Elements.{element_of, preserving, substitution_definition_node, text_nodes}
-use Rattle.rst_block_nodes.specs.Options.{body_attrs, given_attrs, image_node, link_attrs, link_chosen, link_meant, linked_by, literal_element, subtitle_chosen, subtitle_meant, with_alt, value_meant, with_value_at}
+use Rattle.rst_block_nodes.specs.Options.{body_attrs, given_attrs, image_node, link_attrs, link_chosen, link_meant, linked_by, literal_element, subtitle_chosen, subtitle_meant, with_alt, value_meant, with_value_at, with_choices, with_options}
 use Rattle.rst_block_nodes.specs.Readings.{read_nodes, read_notes, subtitled}
+use Rattle.rst_block_nodes.specs.Formulas.{formula, formulas_from, parts_of}
+use Rattle.rst_block_nodes.specs.declared.settings.Holder.{Holder}
+use Rattle.rst_block_nodes.specs.declared.settings.Holder.TheVariants.{Body, Figure, Further}
 use Rattle.rst_block_nodes.specs.Sections.{filled}
 use Rattle.rst_block_nodes.specs.Targets.{may_replace}
 use Rattle.rst_block_nodes.specs.Texts.{counting}
 use Rattle.rst_block_nodes.specs.Values.{normalized, unescaped}
-use Rattle.rst_block_state.specs.Directives.{closed_by, content_lines, content_nodes, definition_nodes, definition_or_error, directive_by, directive_nodes, element_by, faulty_name, first_paragraph, opened_by, right_nodes, substitution_nodes, text_nodes as text_of_directive, titled_element, titled_start}
+use Rattle.rst_block_state.specs.Directives.{closed_by, content_lines, content_nodes, definition_nodes, definition_or_error, directive_by, directive_nodes, element_by, faulty_name, first_paragraph, opened_by, right_nodes, substitution_nodes, text_nodes as text_of_directive, titled_element, titled_start, closed_with, verse_nodes}
 use Rattle.rst_block_state.specs.Figures.{figure_nodes, legend_nodes, message_count}
-use Rattle.rst_block_state.specs.LineRuns.{number_or}
+use Rattle.rst_block_state.specs.LineRuns.{number_or, verse_lines}
 use Rattle.rst_block_state.specs.Numbered.{just}
 use Rattle.rst_block_state.specs.Texts.{excerpt, joined, lines_in, message_with_lines, span_source, spelled}
 use Rattle.rst_block_state.specs.Within.{Within}
@@ -56,14 +61,14 @@ use Rattle.rst_block_laws.proofs.MessageFits.{read_notes_fit}
 use Rattle.rst_block_laws.proofs.Fits.{AllFit, Fits, counting_has, definition_fits, filled_fits, fit_forest, fit_more, fit_nodes, message_fits, open_fits}
 use Rattle.rst_block_laws.proofs.Gives.{Gives, after, give, gives}
 use Rattle.rst_tree_laws.proofs.Have.{with_attr_has, without_key_has}
-use Rattle.rst_block_laws.proofs.LineFits.{texted_fit}
+use Rattle.rst_block_laws.proofs.LineFits.{texted_fit, line_block_fits, verse_kept}
 use Rattle.rst_block_laws.proofs.LineTexts.{excerpt_has, first_kept, joined_kept, lines_kept, source_has, spelled_has}
 use Rattle.rst_tree_laws.proofs.Lists.{all_append, all_drop, all_take}
-use Rattle.rst_tree_laws.proofs.Properties.{Suited, fixed_has, normalized_kept, unescaped_kept}
+use Rattle.rst_tree_laws.proofs.Properties.{Suited, fixed_has, normalized_kept, onto_kept, unescaped_kept}
 use Rattle.rst_block_laws.proofs.Weights.{HoldsAny, Open, light_at, open_counts}
 use borrow.Author.Tests.{le-leb}
 
-module _ (P : ℕ → Bool) (T : List ℕ → Type 0) (s : Suited P T) (c : Within) (k : ℕ) (some : 3 ≤ k) (inside : (B : Block) → BlockKept P B → Gives (AllFit T k) (c.inner B)) where
+module _ (P : ℕ → Bool) (T : List ℕ → Type 0) (s : Suited P T) (c : Within) (k : ℕ) (some : 3 ≤ k) (nested : c.levels + 2 ≤ k) (inside : (B : Block) → BlockKept P B → Gives (AllFit T k) (c.inner B)) where
   fault_has : (fault : Fault) (name : List ℕ) → FaultHas P T s fault → T name → T (fault_text fault name)
   fault_has not_in_substitution name h k = quoted_has P T s (codes "Substitution definition \"") name (codes "\" may hold only image or replace.") refl refl k
   fault_has unknown_directive name h k = quoted_has P T s (codes "Unknown directive type \"") name (codes "\".") refl refl k
@@ -210,15 +215,56 @@ module _ (P : ℕ → Bool) (T : List ℕ → Type 0) (s : Suited P T) (c : With
   opened_fits _ B line read lines b h l =
       after (content_fit B read.content b) (λ nodes low. give_one (open_fits T read.kind.element _ line k (k + 2) nodes h.0 (given_has read.argument _ (body_has read [] h tt)) low (omega arith)))
 
+  -- the line block of a directive
+  optioned_fits : (read : Read) (j : ℕ) (n : Node) → ReadHas P T s read → Fits T j n → Fits T j (with_options false read.options n)
+  optioned_fits read j (Element t a content line) h f = (f.0, (body_has read a h f.1.0, f.1.1))
+  optioned_fits read j (Words t) h f = f
+
+  verse_fits : (read : Read) (B : Block) → BlockKept P B → ReadHas P T s read → Gives (AllFit T (k + 2)) (verse_nodes c.levels read B)
+  verse_fits read B b h =
+      after (line_block_fits P T s c.levels (verse_lines 0 B) (verse_kept P T s 0 B b))
+      (λ made own. give (optioned_fits read (k + 2) made.0 h (omega (arith, own.0.0), own.0.1), fit_more T 3 (k + 2) made.1 (omega arith) own.1))
+
+  -- formulas
+  parts_kept : (t : List ℕ) → Kept P t → AllByRecursion (Kept P) (parts_of t)
+  parts_kept [] h = (tt, tt)
+  parts_kept (ch ∷ []) h = ((h.0, tt), tt)
+  parts_kept (ch ∷ d ∷ cs) h =
+      cond_both (ch == 10 && d == 10) _ _ (AllByRecursion (Kept P)) (λ e. (tt, parts_kept cs h.1.1)) (λ e. onto_kept P ch (parts_of (d ∷ cs)) h.0 (parts_kept (d ∷ cs) h.1))
+
+  holder_has : (holder : Holder) (read : Read) → ReadHas P T s read → AttrsHave T (with_choices holder read.options preserving)
+  holder_has Further read h = chosen_has _ (elim [ Name ↦ λ m h. tt | _ ↦ λ m h. tt ]) read.options preserving h.1 (tt, tt)
+  holder_has Body read h = body_has read preserving h (tt, tt)
+  holder_has Figure read h = chosen_has _ (elim [ Name ↦ λ m h. tt | _ ↦ λ m h. tt ]) read.options preserving h.1 (tt, tt)
+  holder_has _ read h = chosen_has _ (elim [ Name ↦ λ m h. h | _ ↦ λ m h. tt ]) read.options preserving h.1 (tt, tt)
+
+  formula_fits : (holder : Holder) (line : ℕ) (read : Read) (text : List ℕ) → Kept P text → ReadHas P T s read → Fits T (k + 2) (formula holder read.kind.element read.options line text)
+  formula_fits holder line read text b h =
+      elim (encode_utf8_all text) as (λ t. T t → Fits T (k + 2) (element_of read.kind.element (with_choices holder read.options preserving) (text_nodes t) line)) [
+        | [] ↦ λ e. open_fits T read.kind.element _ line 1 (k + 2) [] h.0 (holder_has holder read h) tt (omega arith)
+        | d ∷ ds ↦ λ e. open_fits T read.kind.element _ line 1 (k + 2) (text_nodes (d ∷ ds)) h.0 (holder_has holder read h) ((omega arith, e), tt) (omega arith)
+      ] (s.encoded text b)
+
+  formulas_fit : (holder : Holder) (line : ℕ) (read : Read) (parts : List (List ℕ)) → AllByRecursion (Kept P) parts → ReadHas P T s read → AllFit T (k + 2) (formulas_from holder read.kind.element read.options line parts)
+  formulas_fit holder line read [] b h = tt
+  formulas_fit holder line read ([] ∷ parts) b h = formulas_fit holder line read parts b.1 h
+  formulas_fit holder line read ((ch ∷ cs) ∷ parts) b h = (formula_fits holder line read (ch ∷ cs) b.0 h, formulas_fit Further line read parts b.1 h)
+
   closed_one : (given : ArgumentMeaning) (B : Block) (line : ℕ) (read : Read) → BlockKept P B → ReadHas P T s read → Gives (AllFit T (k + 2)) (just (element_by given None B line read ∷ []))
   closed_one given B line read b h = let own = element_fits given None B line read tt b h in give_one (omega (arith, own.0.0), own.0.1)
 
-  closed_fits : (a : ArgumentMeaning) (B : Block) (line : ℕ) (read : Read) → BlockKept P B → ReadHas P T s read → Gives (AllFit T (k + 2)) (closed_by a B line read)
-  closed_fits (title part) B line read b h = marked_fits (first_parts B) false line read _ (lines_kept P B part b) h
-  closed_fits a B line read b h = closed_one a B line read b h
+  argued_fits : (a : ArgumentMeaning) (B : Block) (line : ℕ) (read : Read) → BlockKept P B → ReadHas P T s read → Gives (AllFit T (k + 2)) (closed_by a B line read)
+  argued_fits (title part) B line read b h = marked_fits (first_parts B) false line read _ (lines_kept P B part b) h
+  argued_fits a B line read b h = closed_one a B line read b h
+
+  closed_fits : (content : ContentKind) (B : Block) (line : ℕ) (read : Read) → BlockKept P B → ReadHas P T s read → Gives (AllFit T (k + 2)) (closed_with content c.levels B line read)
+  closed_fits Marked B line read b h = marked_fits (first_parts B) true line read _ (content_kept B read.content b) h
+  closed_fits Verse B line read b h = verse_fits read _ (content_kept B read.content b) h
+  closed_fits Formulas B line read b h = give (formulas_fit Body line read _ (parts_kept _ (joined_kept P T s _ (content_kept B read.content b))) h)
+  closed_fits _ B line read b h = argued_fits read.argument B line read b h
 
   right_fits : (B : Block) (line : ℕ) (read : Read) (lines : List ℕ) → BlockKept P B → ReadHas P T s read → T lines → Gives (AllFit T (k + 2)) (right_nodes c B line read lines)
-  right_fits B line read lines b h l = cond_both (has_blocks read.kind.content) _ _ (Gives (AllFit T (k + 2))) (λ e. opened_fits read.argument B line read lines b h l) (λ e. cond_both (is_marked read.kind.content) _ _ (Gives (AllFit T (k + 2))) (λ e. marked_fits (first_parts B) true line read _ (content_kept B read.content b) h) (λ e. closed_fits read.argument B line read b h))
+  right_fits B line read lines b h l = cond_both (has_blocks read.kind.content) _ _ (Gives (AllFit T (k + 2))) (λ e. opened_fits read.argument B line read lines b h l) (λ e. closed_fits read.kind.content B line read b h)
 
   shown_fits : (level : Level) (B : Block) (g : Span) (text : List ℕ) → BlockKept P B → T text → Gives (AllFit T (k + 2)) (just (message_with_lines level (first_number (drop g.start B)) text (span_source B g) ∷ []))
   shown_fits level B g text b h = give_one (message_fits T (k + 2) (omega arith) level (first_number (drop g.start B)) text (Some (span_source B g)) h (source_has P T s B g b))

@@ -13,14 +13,14 @@ use Rattle.rst_markup_lines.specs.declared.marker.Marker.{Marker}
 use Rattle.rst_block_nodes.specs.LineBlocks.{IndentedLine, LinePart, deeper_lines, first_line, least_indent, level_line, line_block, line_parts, part_node, with_deeper}
 use Rattle.rst_block_nodes.specs.Readings.{read_notes, texted_node}
 use Rattle.rst_block_state.specs.Constructs.{Construct, Found, bar_line}
-use Rattle.rst_block_state.specs.LineRuns.{bar_lines, below_bar, indentation_of, indented_lines, line_before, line_nodes}
+use Rattle.rst_block_state.specs.LineRuns.{bar_lines, below_bar, indentation_of, indented_lines, line_before, line_nodes, verse_indent, verse_lines, white_len}
 use Rattle.rst_block_state.specs.Within.{Within, indented_part}
 use Rattle.rst_block_laws.proofs.ElementFits.{texted_fits}
 use Rattle.rst_block_laws.proofs.MessageFits.{read_notes_fit}
 use Rattle.rst_block_laws.proofs.Fits.{AllFit, Fits, fit_more, open_fits}
 use Rattle.rst_block_laws.proofs.Gives.{Gives, after, each_gives, give, gives}
 use Rattle.rst_block_laws.proofs.LineTexts.{all_range, joined_kept, lines_kept}
-use Rattle.rst_tree_laws.proofs.Lists.{all_append, all_flat, all_map}
+use Rattle.rst_tree_laws.proofs.Lists.{all_append, all_drop, all_flat, all_map}
 use Rattle.rst_tree_laws.proofs.Properties.{Suited}
 use Rattle.rst_block_laws.proofs.Weights.{Open}
 use Rattle.rst_tree_laws.specs.Texts.{BlockKept, Kept}
@@ -36,7 +36,7 @@ module _ (P : ℕ → Bool) (T : List ℕ → Type 0) (s : Suited P T) where
 
   -- ---- the lines of a run
 
-  abbrev LinesKept : List IndentedLine → Type 0
+  abbrev pub LinesKept : List IndentedLine → Type 0
   LinesKept ls = AllByRecursion (λ (l : IndentedLine). Kept P l.text) ls
 
   bars_kept : (B : Block) (m : Marker) (g : Span) → BlockKept P B → BlockKept P (bar_lines B m g)
@@ -51,6 +51,10 @@ module _ (P : ℕ → Bool) (T : List ℕ → Type 0) (s : Suited P T) where
       by : (what : Construct) → ((now : ℕ) → LinesKept (indented_lines B now fs)) → LinesKept (line_before what B f.span last (λ now. indented_lines B now fs))
       by (bar_line m) others = (joined_kept P T s (bar_lines B m f.span) (bars_kept B m f.span h), others (indentation_of last m))
       by _ others = others last
+
+  pub verse_kept : (last : ℕ) (B : Block) → BlockKept P B → LinesKept (verse_lines last B)
+  verse_kept last [] h = tt
+  verse_kept last (l ∷ ls) h = (all_drop _ (white_len l.text) l.text h.0, verse_kept (verse_indent last l) ls h.1)
 
   -- ---- line blocks
 
@@ -69,7 +73,7 @@ module _ (P : ℕ → Bool) (T : List ℕ → Type 0) (s : Suited P T) where
       let more = parts_kept least ls h.1 in
       cond_both (nat_lt least l.indent) _ _ (AllByRecursion PartKept) (λ e. deeper_kept l (line_parts least ls) h.0 more) (λ e. (h.0, more))
 
-  line_block_fits : (levels : ℕ) (ls : List IndentedLine) → LinesKept ls → Gives (PairFits (levels + 4) 3) (line_block levels ls)
+  pub line_block_fits : (levels : ℕ) (ls : List IndentedLine) → LinesKept ls → Gives (PairFits (levels + 4) 3) (line_block levels ls)
   line_block_fits zero ls h = gives (λ n. tt)
   line_block_fits (suc l) ls h =
       after (each_gives PartKept (PairFits (l + 4) 3) (part_node (line_block l)) (part_fits (line_block_fits l)) (line_parts (least_indent ls) ls) (parts_kept (least_indent ls) ls h))

@@ -1,5 +1,6 @@
 -- The content of a directive as blocks: the lines before its options and those after them are in its block, and begin with a line that isn't blank.
-use Rattle.std.proofs.Common.{◌≡◌, ℕ, ◌+◌, ◌-◌, ◌≤◌, ◌==◌, Bool, true, false, not, cond, List, [], ◌∷◌, length, take, drop, length-drop, Option, None, Some, Result, Ok, Err, arith, sym, ap, ◌∙◌, subst}
+use Rattle.std.proofs.Common.{◌≡◌, ℕ, ◌+◌, ◌-◌, ◌≤◌, ◌==◌, ◌&&◌, Bool, true, false, not, cond, List, [], ◌∷◌, length, take, drop, length-drop, Option, None, Some, Result, Ok, Err, arith, sym, ap, ◌∙◌, subst}
+use Rattle.std.specs.Prelude.{nat_lt}
 use Rattle.std.proofs.lemmas.Bool.{cond_both}
 use Rattle.std.proofs.lemmas.List.{drop-drop}
 use Rattle.std.proofs.lemmas.List.Sums.{prefix_len-le-length}
@@ -15,7 +16,7 @@ use Rattle.rst_markup_directives.specs.Argument.{ArgumentMeaning, argument_of}
 use Rattle.rst_markup_directives.specs.Call.{called_at, part_of, content_of}
 use Rattle.rst_markup_directives.specs.Characters.{Text}
 use Rattle.rst_markup_directives.specs.Directive.{Read, Outcome, found, wrong, run_in, directive_options, read_parts, directive_by_layout, read_block, read_at, directive_outcome_at, fault_of, of_block, judged_directive, named_directive, source_lines_at, is_late, directive_of}
-use Rattle.rst_markup_directives.specs.Kind.{has_blocks}
+use Rattle.rst_markup_directives.specs.Kind.{has_blocks, is_text}
 use Rattle.rst_markup_directives.specs.Layout.{begins_field, before_field, content_alone, parts_without_argument, layout_by, layout_at, layout_of}
 use Rattle.rst_markup_directives.specs.Lines.{blank_len, after_blank}
 use Rattle.rst_markup_directives.specs.Options.{OptionSetting}
@@ -25,7 +26,7 @@ use Rattle.rst_markup_directives.specs.declared.found.Place.{Place}
 use Rattle.rst_markup_directives.specs.declared.kind.ArgumentKind.{ArgumentKind}
 use Rattle.rst_markup_directives.specs.declared.kind.ArgumentKind.TheVariants.{Absent}
 use Rattle.rst_markup_directives.specs.declared.kind.ContentKind.{ContentKind}
-use Rattle.rst_markup_directives.specs.declared.kind.ContentKind.TheVariants.{Paragraph, Marked}
+use Rattle.rst_markup_directives.specs.declared.kind.ContentKind.TheVariants.{Blocks, Caption, Paragraph}
 use Rattle.rst_markup_directives.specs.declared.kind.Kind.{Kind}
 use Rattle.rst_block_state.specs.looks.Budget.{sum_of}
 use Rattle.rst_block_state.specs.looks.BudgetLaws.{is_trimmed, IsFronted, HaveAtMostLines}
@@ -66,11 +67,19 @@ without_laid : (parts : Parts) (run : List Text) (H : Block) → is_trimmed H �
 without_laid parts run H h r =
     chosen (λ layout. IsLaid layout.first layout.second H) (before_field parts run == length run) (content_alone run (length H)) _ (alone_laid H h) (rest_laid (before_field parts run) run H h (prefix_len-le-length (λ (t : Text). not (begins_field parts t)) run) r)
 
+-- blocks are no text
+no_text : (content : ContentKind) → has_blocks content ≡ true → is_text content ≡ false
+no_text Blocks b = refl
+no_text Paragraph b = refl
+no_text Caption b = refl
+no_text _ b = absurd (let no : false ≡ true = b in cc)
+
 parts_laid : (parts : Parts) (content : ContentKind) (argument : ArgumentKind) (run : List Text) (H : Block) → has_blocks content ≡ true → is_trimmed H ≡ true → length run ≤ length H
     → let layout = layout_by parts content argument run (length H) (after_blank H (length run)) in IsLaid layout.first layout.second H
 parts_laid parts Paragraph argument run H b h r = alone_laid H h
-parts_laid parts Marked argument run H b h r = absurd (let no : false ≡ true = b in cc)
-parts_laid parts _ Absent run H b h r = without_laid parts run H h r
+parts_laid parts content Absent run H b h r =
+    subst (λ text. let layout = parts_without_argument parts run (length H) (cond (text && nat_lt 0 (before_field parts run)) (length run) (after_blank H (length run))) in IsLaid layout.first layout.second H)
+    (sym (no_text content b)) (without_laid parts run H h r)
 parts_laid parts _ _ run H b h r = rest_laid 0 run H h (omega arith) r
 
 layout_laid : (kind : Kind) (run : List Text) (H : Block) → has_blocks kind.content ≡ true → is_trimmed H ≡ true → length run ≤ length H → let layout = layout_of kind run H in IsLaid layout.first layout.second H

@@ -1,5 +1,5 @@
 -- What a block gives once a directive in it is read.
-use Rattle.std.proofs.Common.{◌≡◌, ℕ, ◌+◌, ◌<◌, ◌≤◌, Bool, cond, drop, Result, arith, true, false, List, [], ◌∷◌, Some, None, Ok, refl, sym, ◌∙◌, ap}
+use Rattle.std.proofs.Common.{◌≡◌, ℕ, suc, ◌+◌, ◌-◌, ◌<◌, ◌≤◌, Bool, cond, drop, Result, arith, true, false, List, [], ◌∷◌, Some, None, Ok, Err, refl, sym, ◌∙◌, ap}
 use Rattle.rst_settings.specs.declared.Parts.{Parts}
 use Rattle.rst_text.specs.Block.{Block, first_number}
 use Rattle.rst_text.specs.Looked.{capped}
@@ -19,12 +19,13 @@ use Rattle.rst_block_state.specs.Figures.{caption_error, figure_nodes}
 use Rattle.rst_block_state.specs.Inside.{content_blocks}
 use Rattle.rst_block_markup.specs.MarkupSteps.{IsDirectiveRead, IsOpenedRead, made_of_content, marked_text, read_of_directive, reads_with}
 use Rattle.rst_block_markup.specs.declared.directive.Found.{Found}
-use Rattle.rst_block_state.specs.machine.Meanings.{within_at, reads_from, comes}
+use Rattle.rst_block_state.specs.machine.Meanings.{within_at, reads_from, comes, Keeps, deepest}
 use Rattle.rst_block_state.specs.Numbered.{then_read, ◌>>=◌, just}
 use Rattle.rst_block_state.specs.machine.OpenBlocks.{HasMoreAt, IsMoved}
 use Rattle.rst_block_state.specs.Texts.{span_source}
 use Rattle.rst_block_state.specs.Within.{Within}
 use Rattle.rst_block_nodes.specs.declared.fault.BlockFault.{BlockFault}
+use Rattle.rst_block_nodes.specs.declared.fault.BlockFault.TheVariants.{TooDeep, NoMemory}
 use Rattle.rst_block_state.specs.declared.open_block.OpenBlock.{OpenBlock}
 use Rattle.rst_block_state.specs.declared.waits.Waits.TheVariants.{Element}
 use Rattle.rst_block_state.specs.declared.step.Step.{Step}
@@ -47,7 +48,7 @@ opened_read {B = B} {old} f given h blocks is same enough =
     let read = read_of_directive f in
     part_as h
     (same c line lines ∙ ap (λ a. opened_by (given_in a) c B line read lines) (sym is)
-    ∙ ap (λ b. cond b (opened_by read.argument c B line read lines) (closed_nodes B line read)) (sym blocks))
+    ∙ ap (λ b. cond b (opened_by read.argument c B line read lines) (closed_nodes c.levels B line read)) (sym blocks))
     (ap (λ b. cond b (content_blocks B f.content) []) (sym blocks)) refl (omega arith) (omega (arith, enough))
 
 -- one with neither a title nor a URI
@@ -59,7 +60,7 @@ plain_opened _ no_title no_uri c B line read lines = refl
 
 -- one that holds no blocks
 pub closed_read : {more : ℕ} {B : Block} {old new : OpenBlock} {before after : Pass} (f : Found) (ns : List Node) → has_blocks f.kind.content ≡ false → HasMoreAt old new ns f.end → old.at < f.end
-    → closed_nodes B (first_number (drop old.at B)) (read_of_directive f) before.numbers ≡ Ok (ns, after.numbers)
+    → closed_nodes (suc deepest - old.depth) B (first_number (drop old.at B)) (read_of_directive f) before.numbers ≡ Ok (ns, after.numbers)
     → capped before.looks ≤ after.looks → after.looks ≤ before.looks + more → IsDirectiveRead more B old before f new after (Ok Next)
 closed_read {B = B} {old} {before = before} f ns blocks h later n low high =
     let c = within_at old.depth in
@@ -67,8 +68,24 @@ closed_read {B = B} {old} {before = before} f ns blocks h later n low high =
     let lines = span_source B (record { start = old.at; stop = f.end }) in
     let read = read_of_directive f in
     nodes_read ns h later
-    (ap (λ b. cond b (opened_by read.argument c B line read lines) (closed_nodes B line read) before.numbers) blocks ∙ n)
+    (ap (λ b. cond b (opened_by read.argument c B line read lines) (closed_nodes c.levels B line read) before.numbers) blocks ∙ n)
     (ap (λ b. cond b (content_blocks B f.content) []) (sym blocks)) low high
+
+-- one that holds no blocks, and is refused
+pub closed_refused : {A : Type 0} {more : ℕ} {B : Block} {old new : OpenBlock} {before after : Pass} {result : Result Step BlockFault} (f : Found) (fault : BlockFault) (follows : A → Result (List Node × ℕ) ℕ)
+    → has_blocks f.kind.content ≡ false → Keeps (Err fault) follows (closed_nodes (suc deepest - old.depth) B (first_number (drop old.at B)) (read_of_directive f) before.numbers) → result ≡ Err fault
+    → IsDirectiveRead more B old before f new after result
+closed_refused {B = B} {old} {before = before} f (TooDeep number) follows blocks h is =
+    let c = within_at old.depth in
+    let line = first_number (drop old.at B) in
+    let lines = span_source B (record { start = old.at; stop = f.end }) in
+    let read = read_of_directive f in
+    rw is (record {
+      step = tt;
+      read = ap (then_read (λ ns. reads_from old B ns f.end)) (ap (λ b. cond b (opened_by read.argument c B line read lines) (closed_nodes c.levels B line read) before.numbers) blocks ∙ h);
+      paid = tt;
+    })
+closed_refused f NoMemory follows blocks h is = rw is (record { step = tt; read = tt; paid = tt })
 
 -- the text of one that holds a text, in other words
 pub text_is : {parts asked : Parts} {line at : ℕ} {t u : List ℕ} (literal : Bool) (read : Read) → parts ≡ asked → line ≡ at → t ≡ u → marked_text literal read parts line t ≡ marked_text literal read asked at u

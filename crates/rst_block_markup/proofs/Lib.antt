@@ -1,6 +1,8 @@
 pub mod ContentFacts
 pub mod DirectiveFlags
 pub mod DirectiveReads
+pub mod ClosedReads
+pub mod VerseLemmas
 pub mod DirectivesPaid
 pub mod MarkupPaid
 pub mod MarkupReads

@@ -1,7 +1,8 @@
 -- Explicit markup, step by step: what a block gives where its next line begins some, and directives as they are kept. No rule of markup.
-use Rattle.std.specs.Prelude.{◌≡◌, ℕ, ◌+◌, ◌-◌, ◌<◌, length, drop, Bool, true, false, List, ◌∷◌, Option, Some, None, Result, Ok, IfOk, if◌then◌else◌}
+use Rattle.std.specs.declared.vec.Vec.{Vec}
+use Rattle.std.specs.Prelude.{◌≡◌, ℕ, ◌+◌, ◌-◌, ◌<◌, length, drop, unwrap_or, Bool, true, false, List, [], ◌∷◌, Option, Some, None, Result, Ok, IfOk, if◌then◌else◌}
 use Rattle.rst_settings.specs.declared.Parts.{Parts}
-use Rattle.rst_text.specs.Block.{Block, first_number}
+use Rattle.rst_text.specs.Block.{Block, Line, first_number}
 use Rattle.rst_tree.specs.declared.node.Node.{Node}
 use Rattle.rst_markup_directives.specs.Argument.{ArgumentMeaning, given_in}
 use Rattle.rst_markup_directives.specs.Call.{IsContentIn}
@@ -30,7 +31,9 @@ use Rattle.rst_block_markup.specs.declared.directive.Found.{Found}
 use Rattle.rst_block_markup.specs.declared.figure.ContentStart.{ContentStart}
 use Rattle.rst_block_markup.specs.declared.figure.ContentStart.TheVariants.{Caption, Missing, Wrong}
 use Rattle.rst_block_nodes.specs.declared.fault.BlockFault.{BlockFault}
-use Rattle.rst_block_nodes.specs.declared.texted.Texted.{Texted}
+use Rattle.rst_block_nodes.specs.LineBlocks.{indented_by}
+use Rattle.rst_block_nodes.specs.declared.line_blocks.BarText.{BarText}
+use Rattle.rst_block_state.specs.LineRuns.{verse_line}
 use Rattle.rst_block_state.specs.declared.open_block.OpenBlock.{OpenBlock}
 use Rattle.rst_block_state.specs.declared.step.Step.{Step}
 use Rattle.rst_block_state.specs.declared.texts.Pass.{Pass}
@@ -103,9 +106,19 @@ IsOpenedRead few B old before f given new after result =
 abbrev pub text_lines : Found → ℕ
 text_lines f = argument_lines f.argument + (f.content.first.to - f.content.first.from) + (f.content.second.to - f.content.second.from)
 
--- an element and the messages on its text were read, where messages are numbered from `number` on, and then from `next` on
-abbrev pub HoldsNodes : Numbered (List Node) → ℕ → ℕ → Texted → Type 0
-HoldsNodes nodes number next made = nodes number ≡ Ok (made.element ∷ made.notes.items, next)
+-- nodes were read, where messages are numbered from `number` on, and then from `next` on
+abbrev pub HoldsNodes : {A : Type 0} → Numbered (List Node) → ℕ → ℕ → Vec Node A → Type 0
+HoldsNodes nodes number next made = nodes number ≡ Ok (made.items, next)
+
+-- a line of a line block, as it is kept, is this line of verse
+abbrev pub IsVerse : BarText → Line → Type 0
+IsVerse bar l = (last : ℕ) → indented_by (unwrap_or bar.indent last) bar ≡ verse_line last l
+
+-- so are all of some lines
+abbrev pub AreVerse : List BarText → Block → Type 0
+AreVerse [] [] = Unit {0}
+AreVerse (bar ∷ bars) (l ∷ ls) = IsVerse bar l × AreVerse bars ls
+AreVerse bars B = ⊥
 
 -- the element of a directive that has this text with inline markup, and the messages on the text
 abbrev pub marked_text : Bool → Read → Parts → ℕ → List ℕ → Numbered (List Node)

@@ -21,11 +21,11 @@ ghost use Rattle.rst_block_state.specs.declared.texts.Pass.{Pass};
 ghost use Rattle.rst_block_state.specs.looks.Ledger.{unread_at};
 ghost use Rattle.rst_block_state.specs.Inside.{directive_blocks};
 
+use super::closed::closed_nodes;
 use super::explicit::put;
 use super::single::is_single_paragraph;
 use rst_block_nodes::{
-    Texted, append, directive_element, figure, filled, image, literal_block, message, subtitle,
-    with_options, with_text, with_title_class,
+    append, directive_element, figure, filled, image, message, subtitle, with_text, with_title_class,
 };
 use rst_block_state::{
     OpenBlock, Pass, Result, Step, Waits, alone, excerpt, first_line_or, inside, joined, number_at,
@@ -36,7 +36,6 @@ use rst_markup_directives::{
     Argument, Content, ContentKind, Directive, DirectiveFault, Kind, Place, Setting, called,
     directive, level_of, message as fault_text,
 };
-use rst_settings::Parts;
 use rst_text::{Looks, View};
 use rst_tree::{Node, Tag};
 use std::alloc::{AllocError, Global};
@@ -185,10 +184,9 @@ fn directive_nodes(
         IsDirectiveRead few (block_of view.now) level.old pass.old found.now level.new pass.new result }
 {
     if !found.kind.content.has_blocks() {
-        let made = closed_nodes(view, level.at, found, pass)?;
+        let nodes = closed_nodes(view, level.at, level.depth, found, pass)?;
         level.go_to(found.end);
-        level.push(made.element)?;
-        level.append(made.notes)?;
+        level.append(nodes)?;
         return Ok(Step::Next);
     }
     match &found.argument {
@@ -196,111 +194,6 @@ fn directive_nodes(
         Argument::Uri(uri) => figure_block(pass.alloc, view, level, found, uri.as_str()),
         _ => plain_block(pass.alloc, view, level, found),
     }
-}
-
-/// What a directive in line `at` leaves that holds no blocks, and the messages on its text.
-fn closed_nodes(view: &View<'_>, at: usize, found: &Found, pass: &mut Pass) -> Result<Texted>
-    requires content { IsContentIn (block_of view.now) found.now.content }
-    requires argument { IsArgumentIn (block_of view.now) found.now.argument }
-    ensures read { let line = first_number (drop at (block_of view.now)) in
-        let read = read_of_directive found.now in
-        let nodes = meaning.closed_nodes (block_of view.now) line read in
-        Gives (HoldsNodes nodes pass.old.numbers pass.new.numbers) result }
-    ensures looked { IfOk result (λ _. Looked 0 (text_lines found.now) pass.old.looks pass.new.looks) }
-{
-    let alloc = pass.alloc;
-    let parts = parts_at(view, 0);
-    let line = number_at(view, at);
-    if found.kind.content.is_marked() {
-        let text = content_text(alloc, view, found.content, &mut pass.looks)?;
-        return text_element(found, parts, line, true, text.as_str(), pass);
-    }
-    match &found.argument {
-        Argument::Title(title) => {
-            let text = joined(alloc, &inside(view, *title), &mut pass.looks)?;
-            text_element(found, parts, line, false, text.as_str(), pass)
-        }
-        _ => Ok(Texted {
-            element: closed_element(alloc, view, line, found, None, &mut pass.looks)?,
-            notes: Vec::new(alloc),
-        }),
-    }
-}
-
-/// A directive without blocks and markup, which has the number of its line. `alt` is the alternate text of an image whose options
-/// have none.
-pub(crate) fn closed_element(
-    alloc: Global,
-    view: &View<'_>,
-    line: usize,
-    found: &Found,
-    alt: Option<&str>,
-    looks: &mut Looks,
-) -> Result<Node>
-    requires { IsContentIn (block_of view.now) found.now.content }
-    ensures element { let read = read_of_directive found.now in
-        let alt = option_map (λ text. text.now) alt.entry in
-        Gives (λ node. node ≡ meaning.element_by read.argument alt (block_of view.now) line read) result }
-    ensures looked { IfOk result (λ _. Looked 0 (text_lines found.now) looks.old looks.new) }
-{
-    let options = found.options.as_slice();
-    match &found.argument {
-        Argument::Uri(uri) => Ok(image(alloc, uri.as_str(), options, line, false, alt)?),
-        argument => {
-            let text = content_text(alloc, view, found.content, looks)?;
-            let element = found.kind.element;
-            Ok(literal_block(alloc, element, argument, options, text.as_str(), line)?)
-        }
-    }
-}
-
-/// The element of a directive that holds a text with inline markup, and the messages on the text.
-fn text_element(
-    found: &Found,
-    parts: Parts,
-    line: usize,
-    literal: bool,
-    text: &str,
-    pass: &mut Pass,
-) -> Result<Texted>
-    ensures read { let read = read_of_directive found.now in
-        Gives (HoldsNodes (marked_text literal read parts line (chars text.now)) pass.old.numbers pass.new.numbers) result }
-    ensures looks { pass.new.looks ≡ pass.old.looks }
-{
-    let alloc = pass.alloc;
-    let element = found.kind.element;
-    let made = with_text(alloc, parts, element, line, text, line, &mut pass.numbers)?;
-    let element = with_options(alloc, made.element, literal, found.options.as_slice())?;
-    Ok(Texted {
-        element,
-        notes: made.notes,
-    })
-}
-
-/// The text of a directive's content: the lines before the options, and those after them.
-fn content_text(
-    alloc: Global,
-    view: &View<'_>,
-    content: Content,
-    looks: &mut Looks,
-) -> Result<String, AllocError>
-    requires { IsContentIn (block_of view.now) content }
-    ensures bytes { IfOk result (λ text. string_bytes text ≡ spelled (meaning.content_lines (block_of view.now) content)) }
-    ensures looked { let most = (content.first.to - content.first.from) + (content.second.to - content.second.from) in
-        IfOk result (λ _. Looked 0 most looks.old looks.new) }
-{
-    let first = inside(view, content.first);
-    let second = inside(view, content.second);
-    if first.len() == 0 {
-        return Ok(joined(alloc, &second, looks)?);
-    }
-    let mut text = joined(alloc, &first, looks)?;
-    if 0 < second.len() {
-        text.push('\n')?;
-        let more = joined(alloc, &second, looks)?;
-        text.push_str(more.as_str())?;
-    }
-    Ok(text)
 }
 
 /// An admonition, a topic or a sidebar: its title, and then its content.

@@ -1,6 +1,7 @@
 //! Explicit markup: footnotes, citations, targets, comments, substitution definitions, and directives with their figures.
 #![tactic(auto)]
 
+mod closed;
 mod directive;
 mod explicit;
 mod figure;

@@ -15,7 +15,8 @@ ghost use Rattle.rst_block_state.specs.Texts as texts;
 ghost use Rattle.rst_block_state.specs.looks.Ledger.{unread_at};
 ghost use Rattle.rst_block_state.specs.Inside.{content_blocks, directive_blocks, directive_content, substitution_blocks};
 
-use super::directive::{Found, closed_element, directive_at, wrong_directive};
+use super::closed::closed_element;
+use super::directive::{Found, directive_at, wrong_directive};
 use super::explicit::put;
 use rst_block_nodes::{
     filled, may_replace, message, substitution_definition as definition, substitution_name,

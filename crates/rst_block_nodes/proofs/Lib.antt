@@ -8,3 +8,4 @@ pub mod TermLemmas
 pub mod LineBlockLemmas
 pub mod ReadingBridges
 pub mod SectionLemmas
+pub mod FormulaLemmas

@@ -5,6 +5,7 @@ pub mod Results
 pub mod Targets
 pub mod Admonitions
 pub mod Options
+pub mod Formulas
 pub mod Terms
 pub mod Numbered
 pub mod Readings

@@ -24,7 +24,7 @@ use Rattle.rst_markup_directives.specs.declared.measure.Alignment.TheVariants.{T
 use Rattle.rst_markup_directives.specs.declared.option.OptionName.{OptionName}
 use Rattle.rst_markup_directives.specs.declared.option.OptionName.TheVariants.{Alt as AltOption, Height as HeightOption, Width as WidthOption, Scale as ScaleOption, Align as AlignOption, Class as ClassOption, Name as NameOption, FigureWidth, FigureClass, Subtitle}
 use Rattle.rst_block_nodes.specs.declared.settings.Holder.{Holder}
-use Rattle.rst_block_nodes.specs.declared.settings.Holder.TheVariants.{Image, FigureImage, Figure, Body}
+use Rattle.rst_block_nodes.specs.declared.settings.Holder.TheVariants.{Image, FigureImage, Figure, Body, Further}
 use Rattle.rst_block_nodes.specs.Elements.{element_of, preserving, text_nodes}
 
 -- ---- options as attributes
@@ -36,6 +36,7 @@ option_key Figure FigureWidth = Some Width
 option_key Figure FigureClass = Some Classes
 option_key Figure _ = None
 option_key _ ClassOption = Some Classes
+option_key Further _ = None
 option_key _ NameOption = Some OwnName
 option_key Body _ = None
 option_key _ AltOption = Some Alt

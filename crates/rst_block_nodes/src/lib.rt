@@ -6,6 +6,7 @@
 mod contents;
 mod directives;
 mod fault;
+mod formula;
 mod heading;
 mod images;
 mod labels;
@@ -27,6 +28,7 @@ mod values;
 pub use contents::{append, completed, filled};
 pub use directives::{directive_element, literal_block, subtitle, with_options, with_title_class};
 pub use fault::BlockFault;
+pub use formula::formulas;
 pub use heading::{Heading, Style};
 pub use images::{figure, image};
 pub use labels::{citation, footnote};

@@ -14,6 +14,7 @@ use std::marker::Model;
 
 /// A line of a line block: how deep it is indented after its bar (none where nothing follows the bar), the number of
 /// the line with the bar, the number of the line that its text begins in, the text, and whether e-mail addresses are asked for in it.
+/// A line of the directive has no bar.
 #[derive(Debug, Drop)]
 pub struct BarText {
     pub indent: Option<usize>,

@@ -20,6 +20,8 @@ pub(crate) enum Holder {
     Figure,
     /// An admonition, a topic, or a literal block.
     Body,
+    /// A further element of one directive, which doesn't get the name.
+    Further,
 }
 
 /// Sets the attributes that the options of an element's directive ask for.
@@ -38,6 +40,7 @@ pub(crate) fn set_options(
             (Holder::Figure, OptionName::FigureClass) => Key::Classes,
             (Holder::Figure, _) => continue,
             (_, OptionName::Class) => Key::Classes,
+            (Holder::Further, _) => continue,
             (_, OptionName::Name) => Key::OwnName,
             (Holder::Body, _) => continue,
             (_, OptionName::Alt) => Key::Alt,

@@ -1,6 +1,6 @@
 -- Directives, and substitution definitions, which hold directives (Markup Specification, 'Directives', 'Substitution Definitions'; Directives,
--- 'Admonitions', 'Images', 'Topic', 'Sidebar', 'Code', 'Rubric', 'Parsed Literal Block', 'Raw Data Pass-Through', 'Compound Paragraph', 'Container', 'Replacement
--- Text').
+-- 'Admonitions', 'Images', 'Topic', 'Sidebar', 'Code', 'Rubric', 'Parsed Literal Block', 'Line Block', 'Math', 'Raw Data Pass-Through', 'Compound
+-- Paragraph', 'Container', 'Replacement Text').
 use Rattle.std.specs.Prelude.{ℕ, Bool, true, false, List, [], ◌∷◌, ◌++◌, drop, codes, Option, Some, None, encode_utf8_all, if◌then◌else◌}
 use Rattle.rst_settings.specs.declared.Parts.{Parts}
 use Rattle.rst_text.specs.Block.{Block, first_text, first_number, first_parts}
@@ -15,21 +15,24 @@ use Rattle.rst_markup_blocks.specs.Partition.{Span}
 use Rattle.rst_markup_blocks.specs.declared.forms.Invocation.{Invocation}
 use Rattle.rst_markup_directives.specs.Argument.{ArgumentMeaning, title, uri}
 use Rattle.rst_markup_directives.specs.Directive.{Read, Outcome, found, wrong, directive_at}
-use Rattle.rst_markup_directives.specs.Kind.{has_blocks, is_marked}
+use Rattle.rst_markup_directives.specs.Kind.{has_blocks}
 use Rattle.rst_markup_directives.specs.Message.{fault_level, fault_text}
 use Rattle.rst_markup_directives.specs.Wrong.{Fault, not_in_substitution}
 use Rattle.rst_markup_directives.specs.declared.found.Content.{Content}
 use Rattle.rst_markup_directives.specs.declared.found.Place.{Place}
 use Rattle.rst_markup_directives.specs.declared.found.Place.TheVariants.{Top, Body, Substitution}
+use Rattle.rst_markup_directives.specs.declared.kind.ContentKind.{ContentKind}
+use Rattle.rst_markup_directives.specs.declared.kind.ContentKind.TheVariants.{Marked, Verse, Formulas}
 use Rattle.rst_block_nodes.specs.Admonitions.{with_title_class}
 use Rattle.rst_block_nodes.specs.Elements.{substitution_definition_node}
+use Rattle.rst_block_nodes.specs.Formulas.{formulas}
 use Rattle.rst_block_nodes.specs.Targets.{may_replace}
 use Rattle.rst_block_nodes.specs.Values.{normalized, unescaped}
 use Rattle.rst_block_nodes.specs.Sections.{filled}
 use Rattle.rst_block_nodes.specs.Options.{directive_element, figure_element, image_element, literal_element, subtitle_chosen, with_options}
 use Rattle.rst_block_nodes.specs.Readings.{subtitled}
 use Rattle.rst_block_state.specs.Figures.{caption_error, figure_nodes}
-use Rattle.rst_block_state.specs.LineRuns.{number_or}
+use Rattle.rst_block_state.specs.LineRuns.{line_block, number_or, verse_lines}
 use Rattle.rst_block_state.specs.Numbered.{Numbered, ◌>>=◌, just}
 use Rattle.rst_block_state.specs.Paragraphs.{is_single_paragraph}
 use Rattle.rst_block_state.specs.Texts.{excerpt, joined, lines_in, message_with_lines, span_source, spelled, texted}
@@ -112,15 +115,28 @@ abbrev pub closed_by : ArgumentMeaning → Block → ℕ → Read → Numbered (
 closed_by (title part) B line read = text_nodes (first_parts B) false line read (lines_in B part)
 closed_by given B line read = just (element_by given None B line read ∷ [])
 
+-- the line block of a directive with these lines, and the messages on them, where this many line blocks may be nested
+abbrev pub verse_nodes : ℕ → Read → Block → Numbered (List Node)
+verse_nodes levels read lines = do
+  made ← line_block levels (verse_lines 0 lines)
+  just (with_options false read.options made.0 ∷ made.1)
+
+-- a directive that holds no blocks, by its content: marked text, verse, formulas, or another or none
+abbrev pub closed_with : ContentKind → ℕ → Block → ℕ → Read → Numbered (List Node)
+closed_with Marked levels B line read = text_nodes (first_parts B) true line read (content_lines B read.content)
+closed_with Verse levels B line read = verse_nodes levels read (content_lines B read.content)
+closed_with Formulas levels B line read =
+    just (formulas read.kind.element read.options line (joined (content_lines B read.content)))
+closed_with _ levels B line read = closed_by read.argument B line read
+
 -- a directive that holds no blocks
-abbrev pub closed_nodes : Block → ℕ → Read → Numbered (List Node)
-closed_nodes B line read =
-    if is_marked read.kind.content then text_nodes (first_parts B) true line read (content_lines B read.content) else closed_by read.argument B line read
+abbrev pub closed_nodes : ℕ → Block → ℕ → Read → Numbered (List Node)
+closed_nodes levels B line read = closed_with read.kind.content levels B line read
 
 -- a directive, which starts in this line, with its lines
 abbrev pub right_nodes : Within → Block → ℕ → Read → List ℕ → Numbered (List Node)
 right_nodes c B line read lines =
-    if has_blocks read.kind.content then opened_by read.argument c B line read lines else closed_nodes B line read
+    if has_blocks read.kind.content then opened_by read.argument c B line read lines else closed_nodes c.levels B line read
 
 -- a directive, or the message on one that is wrong, which shows its lines; no block of a wrong directive is read
 abbrev pub directive_by : Outcome → Within → Block → Span → List ℕ → Numbered (List Node)

@@ -1,6 +1,8 @@
--- Line blocks (Markup Specification, 'Line Blocks').
+-- Line blocks (Markup Specification, 'Line Blocks'; Directives, 'Line Block').
 use Rattle.std.specs.Prelude.{ℕ, ◌+◌, ◌-◌, List, [], ◌∷◌, ◌++◌, drop, slice_range, if◌then◌else◌}
-use Rattle.rst_text.specs.Block.{Block, first_number, cut, first_parts}
+use Rattle.std.specs.List.{prefix_len}
+use Rattle.rst_text.specs.Block.{Block, Line, first_number, cut, first_parts, is_blank}
+use Rattle.rst_text.specs.Characters.{is_white}
 use Rattle.rst_tree.specs.declared.node.Node.{Node}
 use Rattle.rst_markup_lines.specs.declared.marker.Marker.{Marker}
 use Rattle.rst_markup_blocks.specs.Partition.{Span}
@@ -48,6 +50,26 @@ line_before _ B s last others = others last
 abbrev pub indented_lines : Block → ℕ → List Found → List IndentedLine
 indented_lines B last [] = []
 indented_lines B last (f ∷ fs) = line_before f.what B f.span last (λ now. indented_lines B now fs)
+
+-- ---- lines without bars
+
+-- how many white characters a text begins with
+abbrev pub white_len : List ℕ → ℕ
+white_len t = prefix_len is_white t
+
+-- the indentation of a line of verse, which is that of the line before where it is empty
+abbrev pub verse_indent : ℕ → Line → ℕ
+verse_indent last l = if is_blank l.text then last else white_len l.text
+
+-- a line of verse after one of this indentation
+abbrev pub verse_line : ℕ → Line → IndentedLine
+verse_line last l =
+    record { indent = verse_indent last l; line = l.number; text_line = l.number; text = drop (white_len l.text) l.text; parts = l.parts }
+
+-- lines of verse after one of this indentation
+abbrev pub verse_lines : ℕ → Block → List IndentedLine
+verse_lines last [] = []
+verse_lines last (l ∷ ls) = verse_line last l ∷ verse_lines (verse_indent last l) ls
 
 -- ---- line blocks
 

@@ -1,6 +1,7 @@
 -- The parts of a directive are blocks of what its block is a part of.
-use Rattle.std.proofs.Common.{◌≡◌, ℕ, ◌+◌, ◌-◌, ◌≤◌, ◌==◌, Bool, cond, not, List, [], ◌∷◌, length, take, drop, length-drop, Option, None, Some, Result, Ok, Err, arith, sym, ap, ◌∙◌, subst}
+use Rattle.std.proofs.Common.{◌≡◌, ℕ, ◌+◌, ◌-◌, ◌≤◌, ◌==◌, ◌&&◌, Bool, cond, not, List, [], ◌∷◌, length, take, drop, length-drop, Option, None, Some, Result, Ok, Err, arith, sym, ap, ◌∙◌, subst}
 use Rattle.std.specs.List.{prefix_len}
+use Rattle.std.specs.Prelude.{nat_lt}
 use Rattle.std.proofs.lemmas.Bool.{cond_both}
 use Rattle.std.proofs.lemmas.List.{drop-drop, length-map, length-take}
 use Rattle.std.proofs.lemmas.List.Folds.{length-prefix_len}
@@ -17,6 +18,7 @@ use Rattle.rst_markup_directives.specs.Argument.{ArgumentMeaning, title, word_of
 use Rattle.rst_markup_directives.specs.Call.{part_of, content_of, IsContentIn, IsDirectiveIn}
 use Rattle.rst_markup_directives.specs.Characters.{Text}
 use Rattle.rst_markup_directives.specs.Directive.{Read, Outcome, found, wrong, run_in, directive_options, read_parts, directive_by_layout, read_block, directive_outcome_at, fault_of, of_block, judged_directive, directive_outcome}
+use Rattle.rst_markup_directives.specs.Kind.{is_text}
 use Rattle.rst_markup_directives.specs.Layout.{begins_field, before_field, parts_without_argument, layout_by, layout_at, layout_of}
 use Rattle.rst_markup_directives.specs.Lines.{first_run, blank_len, after_blank, joined_nonempty}
 use Rattle.rst_markup_directives.specs.Options.{OptionSetting}
@@ -28,7 +30,7 @@ use Rattle.rst_markup_directives.specs.declared.found.Directive.TheVariants.{Fou
 use Rattle.rst_markup_directives.specs.declared.found.Place.{Place}
 use Rattle.rst_markup_directives.specs.declared.layout.Layout.{Layout}
 use Rattle.rst_markup_directives.specs.declared.kind.ContentKind.{ContentKind}
-use Rattle.rst_markup_directives.specs.declared.kind.ContentKind.TheVariants.{Paragraph, Marked}
+use Rattle.rst_markup_directives.specs.declared.kind.ContentKind.TheVariants.{Paragraph}
 use Rattle.rst_markup_directives.specs.declared.kind.Kind.{Kind}
 use Rattle.rst_markup_directives.specs.declared.kind.ArgumentKind.{ArgumentKind}
 use Rattle.rst_markup_directives.specs.declared.kind.ArgumentKind.TheVariants.{Absent as NoArgument, Title as TitleArgument, OptionalTitle, Uri as UriArgument, Language as LanguageArgument, Formats as FormatsArgument, Classes as ClassesArgument}
@@ -85,8 +87,9 @@ without_within parts run all rest h k =
 
 parts_within : (parts : Parts) (content : ContentKind) (argument : ArgumentKind) (run : List Text) (all rest : ℕ) → length run ≤ all → rest ≤ all → IsWithin (layout_by parts content argument run all rest) all
 parts_within parts Paragraph argument run all rest h k = record { argument = omega arith; first = omega arith; second = omega arith }
-parts_within parts Marked NoArgument run all rest h k = without_within parts run all (cond (before_field parts run == 0) rest (length run)) h (cond_both (before_field parts run == 0) rest (length run) (λ n. n ≤ all) (λ _. k) (λ _. h))
-parts_within parts _ NoArgument run all rest h k = without_within parts run all rest h k
+parts_within parts content NoArgument run all rest h k =
+    let whole = is_text content && nat_lt 0 (before_field parts run) in
+    without_within parts run all (cond whole (length run) rest) h (cond_both whole (length run) rest (λ n. n ≤ all) (λ _. h) (λ _. k))
 parts_within parts _ _ run all rest h k = record { argument = omega (arith, before_field-le parts run); first = omega arith; second = omega arith }
 
 layout_within : (parts : Parts) (kind : Kind) (run : List Text) (all rest : ℕ) → length run ≤ all → rest ≤ all → IsWithin (layout_at parts kind run all rest) all

@@ -1,7 +1,7 @@
 -- The directives: their names, what they take, where they are allowed, and which part of the profile has them (Directives, 'Specific
 -- Admonitions', 'Generic Admonition', 'Topic', 'Rubric', 'Image', 'Figure', 'Code', 'Parsed Literal Block', 'Raw Data Pass-Through', 'Including an
--- External Document Fragment', 'Compound Paragraph', 'Container', 'Replacement Text', 'Common Options'; Markup Specification, 'Substitution
--- Definitions').
+-- External Document Fragment', 'Compound Paragraph', 'Container', 'Line Block', 'Math', 'Replacement Text', 'Common Options'; Markup
+-- Specification, 'Substitution Definitions').
 use Prim.Native.String.{String}
 use Rattle.std.specs.Prelude.{ℕ, Bool, true, false, List, [], ◌∷◌, codes, Option, Some, None, option_and_then, if◌then◌else◌}
 use Rattle.std.specs.List.{list_any}
@@ -16,7 +16,7 @@ use Rattle.rst_markup_directives.specs.declared.kind.Allowed.TheVariants.{Body, 
 use Rattle.rst_markup_directives.specs.declared.kind.ArgumentKind.{ArgumentKind}
 use Rattle.rst_markup_directives.specs.declared.kind.ArgumentKind.TheVariants.{Absent, Title, OptionalTitle, Uri, Language, Formats, Classes}
 use Rattle.rst_markup_directives.specs.declared.kind.ContentKind.{ContentKind}
-use Rattle.rst_markup_directives.specs.declared.kind.ContentKind.TheVariants.{Empty as NoContent, Lines, Marked, Blocks, Paragraph, Caption}
+use Rattle.rst_markup_directives.specs.declared.kind.ContentKind.TheVariants.{Empty as NoContent, Lines, Marked, Verse, Formulas, Blocks, Paragraph, Caption}
 use Rattle.rst_markup_directives.specs.declared.kind.Kind.{Kind}
 use Rattle.rst_markup_directives.specs.declared.kind.OptionSet.{OptionSet}
 use Rattle.rst_markup_directives.specs.declared.kind.OptionSet.TheVariants.{Empty as NoOptions, Common, NameAlone, Sidebar as SidebarOptions, Raw as RawOptions, Include, Image, Figure}
@@ -65,6 +65,8 @@ directives =
     ∷ row "compound" Wider tag.Compound Absent Common Blocks Body
     ∷ row "container" Wider tag.Container Classes NameAlone Blocks Body
     ∷ row "sidebar" Wider tag.Sidebar OptionalTitle SidebarOptions Blocks Beside
+    ∷ row "line-block" Wider tag.LineBlock Absent Common Verse Body
+    ∷ row "math" Wider tag.MathBlock Absent Common Formulas Body
     ∷ []
 
 -- a part of the profile is on; `code` is true if the directive for program code is
@@ -144,12 +146,9 @@ has_vertical _ = true
 abbrev pub is_text : ContentKind → Bool
 is_text Lines = true
 is_text Marked = true
+is_text Verse = true
+is_text Formulas = true
 is_text _ = false
-
--- the content is a text with inline markup
-abbrev pub is_marked : ContentKind → Bool
-is_marked Marked = true
-is_marked _ = false
 
 -- the content is a single paragraph
 abbrev pub is_paragraph : ContentKind → Bool

@@ -1,19 +1,20 @@
 -- Where the parts of a directive's block are (Markup Specification, 'Directives'). A part is given by the places of the lines
 -- that it begins and ends at.
-use Rattle.std.specs.Prelude.{ℕ, Bool, not, ◌==◌, List, length, if◌then◌else◌}
+use Rattle.std.specs.Prelude.{ℕ, Bool, not, ◌&&◌, ◌==◌, nat_lt, List, length, if◌then◌else◌}
 use Rattle.std.specs.List.{prefix_len}
 use Rattle.std.specs.Option.{is_some}
 use Rattle.rst_settings.specs.declared.Parts.{Parts}
 use Rattle.rst_text.specs.Block.{Block, first_parts}
 use Rattle.rst_markup_lines.specs.Field.{field_of}
 use Rattle.rst_markup_directives.specs.Characters.{Text}
+use Rattle.rst_markup_directives.specs.Kind.{is_text}
 use Rattle.rst_markup_directives.specs.Lines.{after_blank}
 use Rattle.rst_markup_directives.specs.declared.layout.Layout.{Layout}
 use Rattle.rst_markup_directives.specs.declared.kind.Kind.{Kind}
 use Rattle.rst_markup_directives.specs.declared.kind.ArgumentKind.{ArgumentKind}
 use Rattle.rst_markup_directives.specs.declared.kind.ArgumentKind.TheVariants.{Absent}
 use Rattle.rst_markup_directives.specs.declared.kind.ContentKind.{ContentKind}
-use Rattle.rst_markup_directives.specs.declared.kind.ContentKind.TheVariants.{Paragraph, Marked}
+use Rattle.rst_markup_directives.specs.declared.kind.ContentKind.TheVariants.{Paragraph}
 
 -- a line begins a field (Markup Specification, 'Field Lists')
 unfoldable pub begins_field : Parts → Text → Bool
@@ -39,8 +40,7 @@ parts_without_argument parts run all rest =
 -- the options begin. The blank lines between the two parts of a text belong to it.
 abbrev pub layout_by : Parts → ContentKind → ArgumentKind → List Text → ℕ → ℕ → Layout
 layout_by parts Paragraph argument run all rest = content_alone run all
-layout_by parts Marked Absent run all rest = parts_without_argument parts run all (if before_field parts run == 0 then rest else length run)
-layout_by parts _ Absent run all rest = parts_without_argument parts run all rest
+layout_by parts content Absent run all rest = parts_without_argument parts run all (if is_text content && nat_lt 0 (before_field parts run) then length run else rest)
 layout_by parts _ _ run all rest = record { argument = before_field parts run; first = 0; options = before_field parts run; second = rest }
 
 -- the parts of a block of `all` lines that begins with this run; `rest` is the place of the first line after the run that

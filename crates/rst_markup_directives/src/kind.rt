@@ -64,6 +64,10 @@ pub enum ContentKind {
     Lines,
     /// A text with inline markup, at least one line.
     Marked,
+    /// Lines of a line block, at least one.
+    Verse,
+    /// Formulas, at least one.
+    Formulas,
     /// Body elements, at least one.
     Blocks,
     /// One paragraph.
@@ -121,7 +125,7 @@ macro_rules! row {
 }
 
 /// The directives by their names.
-const DIRECTIVES: [(&str, (PartName, Kind)); 24] = [
+const DIRECTIVES: [(&str, (PartName, Kind)); 26] = [
     row!("code" in Code: LiteralBlock, Language, Common, Lines, Body),
     row!("code-block" in Code: LiteralBlock, Language, Common, Lines, Body),
     row!("sourcecode" in Code: LiteralBlock, Language, Common, Lines, Body),
@@ -146,6 +150,8 @@ const DIRECTIVES: [(&str, (PartName, Kind)); 24] = [
     row!("compound" in Wider: Compound, Absent, Common, Blocks, Body),
     row!("container" in Wider: Container, Classes, NameAlone, Blocks, Body),
     row!("sidebar" in Wider: Sidebar, OptionalTitle, Sidebar, Blocks, Beside),
+    row!("line-block" in Wider: LineBlock, Absent, Common, Verse, Body),
+    row!("math" in Wider: MathBlock, Absent, Common, Formulas, Body),
 ];
 
 /// Whether a text names a directive of the wider profile, without regard to the case of letters of ASCII.
@@ -199,18 +205,14 @@ impl ContentKind {
         )
     }
 
-    /// Whether the content is a text with inline markup.
-    pub fn is_marked(self) -> bool
-        ensures { result ≡ spec.is_marked self }
-    {
-        self == ContentKind::Marked
-    }
-
     /// Whether the content is one text.
     pub(crate) fn is_text(self) -> bool
         ensures { result ≡ spec.is_text self }
     {
-        matches!(self, ContentKind::Lines | ContentKind::Marked)
+        matches!(
+            self,
+            ContentKind::Lines | ContentKind::Marked | ContentKind::Verse | ContentKind::Formulas
+        )
     }
 }
 

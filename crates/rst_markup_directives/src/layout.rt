@@ -44,11 +44,11 @@ pub(crate) fn layout_of(parts: Parts, kind: Kind, run: &[&str], all: usize, rest
 {
     match (kind.content, kind.argument) {
         (ContentKind::Paragraph, _) => content_alone(run, all),
-        (ContentKind::Marked, ArgumentKind::Absent) => {
-            let from = before_field(parts, run);
-            parts_without_argument(parts, run, all, if from == 0 { rest } else { run.len() })
+        (content, ArgumentKind::Absent) => {
+            // The blank lines between the two parts of a text belong to it.
+            let whole = content.is_text() && 0 < before_field(parts, run);
+            parts_without_argument(parts, run, all, if whole { run.len() } else { rest })
         }
-        (_, ArgumentKind::Absent) => parts_without_argument(parts, run, all, rest),
         _ => {
             // The argument ends where the options begin.
             let from = before_field(parts, run);

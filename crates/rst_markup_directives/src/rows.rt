@@ -25,7 +25,7 @@ ghost use Rattle.rst_markup_directives.specs.declared.found.Place.TheVariants.{B
 ghost use Rattle.rst_markup_directives.specs.declared.measure.Alignment.TheVariants.{Bottom, Center, Left, Middle, Right, Top};
 ghost use Rattle.rst_markup_directives.specs.declared.kind.Allowed.TheVariants as allowed;
 ghost use Rattle.rst_markup_directives.specs.declared.kind.ArgumentKind.TheVariants.{Absent, Classes, Formats, Language, OptionalTitle, Title, Uri};
-ghost use Rattle.rst_markup_directives.specs.declared.kind.ContentKind.TheVariants.{Blocks, Caption, Empty, Lines, Marked, Paragraph};
+ghost use Rattle.rst_markup_directives.specs.declared.kind.ContentKind.TheVariants.{Blocks, Caption, Empty, Lines, Marked, Paragraph, Formulas, Verse};
 ghost use Rattle.rst_markup_directives.specs.declared.kind.OptionSet.TheVariants.{Common, Empty as NoOptions, Figure, Image, Include, NameAlone, Raw as RawOptions, Sidebar as SidebarOptions};
 ghost use Rattle.rst_markup_directives.specs.declared.option.OptionName.TheVariants.{Align, Alt, Class, FigureClass, FigureWidth, File, Height, Inclusion, Name as NameOption, Scale, Subtitle, Target, Url, Width};
 
@@ -46,18 +46,19 @@ pub fn names()
     ensures case_of_letters { map (λ t. directive_named no_parts (codes t) true) ("NoTe" ∷ "Code-Block" ∷ "tıp" ∷ [])
         ≡ Some (kind tag.Note Absent Common Blocks allowed.Body) ∷ Some (kind tag.LiteralBlock Language Common Lines allowed.Body) ∷ None ∷ [] }
     ensures further { map (λ t. directive_named all_parts (codes t) false) ("rubric" ∷ "raw" ∷ "parsed-literal" ∷ "include" ∷ "compound"
-        ∷ "container" ∷ [])
+        ∷ "container" ∷ "line-block" ∷ "math" ∷ [])
         ≡ Some (kind tag.Rubric Title Common Empty allowed.Body) ∷ Some (kind tag.Raw Formats RawOptions Lines allowed.Anywhere)
         ∷ Some (kind tag.LiteralBlock Absent Common Marked allowed.Body) ∷ Some (kind tag.LiteralBlock Title Include Empty allowed.Nowhere)
-        ∷ Some (kind tag.Compound Absent Common Blocks allowed.Body) ∷ Some (kind tag.Container Classes NameAlone Blocks allowed.Body) ∷ [] }
+        ∷ Some (kind tag.Compound Absent Common Blocks allowed.Body) ∷ Some (kind tag.Container Classes NameAlone Blocks allowed.Body)
+        ∷ Some (kind tag.LineBlock Absent Common Verse allowed.Body) ∷ Some (kind tag.MathBlock Absent Common Formulas allowed.Body) ∷ [] }
     ensures sidebar { directive_named all_parts (codes "Sidebar") false ≡ Some (kind tag.Sidebar OptionalTitle SidebarOptions Blocks allowed.Beside) }
     ensures without_their_part { filter (λ t. is_some (directive_named (record all_parts { directives = false }) (codes t) true)) ("rubric" ∷ "raw"
-        ∷ "parsed-literal" ∷ "include" ∷ "compound" ∷ "container" ∷ "sidebar" ∷ [])
+        ∷ "parsed-literal" ∷ "include" ∷ "compound" ∷ "container" ∷ "line-block" ∷ "math" ∷ "sidebar" ∷ [])
         ≡ [] }
-    ensures wider { filter (λ t. is_wider_directive (codes t)) ("note" ∷ "code" ∷ "Raw" ∷ "PARSED-literal" ∷ "ra" ∷ "raws" ∷ "math" ∷ "" ∷ [])
-        ≡ "Raw" ∷ "PARSED-literal" ∷ [] }
+    ensures wider { filter (λ t. is_wider_directive (codes t)) ("note" ∷ "code" ∷ "Raw" ∷ "PARSED-literal" ∷ "ra" ∷ "raws" ∷ "Math" ∷ "" ∷ [])
+        ≡ "Raw" ∷ "PARSED-literal" ∷ "Math" ∷ [] }
     ensures left_out { filter (λ t. is_some (directive_named no_parts (codes t) true)) ("raw" ∷ "include" ∷ "table" ∷ "csv-table" ∷ "list-table" ∷ "math"
-        ∷ "contents" ∷ "class" ∷ "compound" ∷ "container" ∷ "rubric" ∷ "sidebar" ∷ "parsed-literal" ∷ "role" ∷ "unicode" ∷ "date" ∷ "notes" ∷ "not" ∷ [])
+        ∷ "contents" ∷ "class" ∷ "compound" ∷ "container" ∷ "line-block" ∷ "rubric" ∷ "sidebar" ∷ "parsed-literal" ∷ "role" ∷ "unicode" ∷ "date" ∷ "notes" ∷ "not" ∷ [])
         ≡ [] }
 {}
 
@@ -274,6 +275,18 @@ pub fn arguments()
             second = record { from = 2; to = 5; first_cut = 3; rest_cut = 3 };
           };
         }) }
+    ensures blank_lines_in_verse { read_block (kind tag.LineBlock Absent Common Verse allowed.Body) false (record { from = 0; to = 4; first_cut = 15; rest_cut = 3 }) (block ("a"
+        ∷ ":name: n" ∷ "" ∷ "  b" ∷ []))
+        ≡ Ok (record {
+          kind = kind tag.LineBlock Absent Common Verse allowed.Body;
+          argument = nothing;
+          options = (NameOption, called (codes "n"))
+              ∷ [];
+          content = record {
+            first = record { from = 0; to = 1; first_cut = 15; rest_cut = 3 };
+            second = record { from = 2; to = 4; first_cut = 3; rest_cut = 3 };
+          };
+        }) }
     ensures with_classes { map (λ t. argument_of Classes (codes t ∷ codes "B" ∷ []) (record { from = 0; to = 2; first_cut = 14; rest_cut = 3 })) ("a"
         ∷ "a 1" ∷ [])
         ≡ Ok (classes (codes "a\nB") (Some (codes "a" ∷ codes "b" ∷ []))) ∷ Ok (classes (codes "a 1\nB") None) ∷ [] }
@@ -323,13 +336,13 @@ pub fn places()
         ∷ false ∷ [])
         ≡ Some None ∷ Some (Some (Inside NotOneParagraph)) ∷ [] }
     ensures no_text { map (λ t. option_map (λ k. content_fault k true Body false) (directive_named all_parts (codes t) true)) ("rubric" ∷ "raw"
-        ∷ "parsed-literal" ∷ "compound" ∷ "container" ∷ [])
-        ≡ map (λ fault. Some fault) (None ∷ Some NoContent ∷ Some NoContent ∷ Some NoContent ∷ Some NoContent ∷ []) }
+        ∷ "parsed-literal" ∷ "compound" ∷ "container" ∷ "line-block" ∷ "math" ∷ [])
+        ≡ map (λ fault. Some fault) (None ∷ Some NoContent ∷ Some NoContent ∷ Some NoContent ∷ Some NoContent ∷ Some NoContent ∷ Some NoContent ∷ []) }
     ensures text { map (λ t. option_map (λ k. content_fault k false Body false) (directive_named all_parts (codes t) true)) ("rubric" ∷ "raw"
         ∷ "parsed-literal" ∷ [])
         ≡ map (λ fault. Some fault) (Some (Inside ContentNotPermitted) ∷ None ∷ None ∷ []) }
     ensures further_in_a_definition { filter (λ t. is_ok (permitted (directive_named all_parts (codes t) true) Substitution)) ("rubric" ∷ "raw"
-        ∷ "parsed-literal" ∷ "include" ∷ [])
+        ∷ "parsed-literal" ∷ "include" ∷ "line-block" ∷ "math" ∷ [])
         ≡ "raw" ∷ [] }
     ensures include { map (λ empty. option_map (λ k. content_fault k empty Body false) (directive_named all_parts (codes "include") true)) (true ∷ false ∷ [])
         ≡ Some (Some Disabled) ∷ Some (Some (Inside ContentNotPermitted)) ∷ [] }

@@ -56,6 +56,17 @@ pub fn parsed_literals()
         ("<document source=\"x\">" ∷ "    <literal_block xml:space=\"preserve\">" ∷ "        * ab" ∷ []) [] 0 }
 {}
 
+/// Line blocks and formulas (Directives, 'Line Block', 'Math').
+pub fn verse_and_formulas()
+    ensures verse { Reports wide (".. line-block::" ∷ "   :class: c" ∷ "" ∷ "   a" ∷ "     *b*" ∷ "" ∷ "   c" ∷ [])
+        ("<document source=\"x\">" ∷ "    <line_block classes=\"c\">" ∷ "        <line>" ∷ "            a" ∷ "        <line_block>"
+        ∷ "            <line>" ∷ "                <emphasis>" ∷ "                    b" ∷ "            <line>" ∷ "        <line>"
+        ∷ "            c" ∷ []) [] 0 }
+    ensures formulas { Reports wide (".. math:: a < b" ∷ "   :name: N" ∷ "" ∷ "   c &= \\alpha" ∷ "" ∷ "   *d*" ∷ [])
+        ("<document source=\"x\">" ∷ "    <math_block ids=\"n\" names=\"n\" xml:space=\"preserve\">" ∷ "        a < b"
+        ∷ "    <math_block xml:space=\"preserve\">" ∷ "        c &= \\alpha" ∷ "    <math_block xml:space=\"preserve\">" ∷ "        *d*" ∷ []) [] 0 }
+{}
+
 /// Files, which aren't included (Directives, 'Including an External Document Fragment').
 pub fn included_files()
     ensures disabled { Reports wide (".. include:: inc.txt" ∷ [])

@@ -16,6 +16,7 @@ ghost use Rattle.rst_markup_directives.specs.declared.measure.Alignment.TheVaria
 ghost use Rattle.rst_markup_directives.specs.declared.option.OptionName.TheVariants.{Alt, Height, Width, Scale, Align, Target, Class, Name, FigureWidth, FigureClass};
 ghost use Rattle.rst_block_nodes.specs.Admonitions.{with_title_class};
 ghost use Rattle.rst_block_nodes.specs.Elements.{plain_node, preserved_node, bullet_list_node, enumerated_list_node, start_text, option_node, footnote_node, citation_node, substitution_definition_node, tgroup_node, entry_node};
+ghost use Rattle.rst_block_nodes.specs.Formulas.{formulas};
 ghost use Rattle.rst_block_nodes.specs.LineBlocks.{line_block};
 ghost use Rattle.rst_block_nodes.specs.Options.{directive_element, figure_element, image_element, literal_element, with_options};
 ghost use Rattle.rst_block_nodes.specs.Readings.{term_nodes, texted, texted_node};
@@ -194,6 +195,9 @@ pub fn directives()
         ("<rubric classes=\"a\" own_name=\"c\"> 1" ∷ "    b " ∷ "    <emphasis> 1" ∷ "        c" ∷ []) }
     ensures parsed_literal { Says (with_options true [] (texted_node no_parts tag.LiteralBlock 1 (codes "a\n b") 1 0) ∷ [])
         ("<literal_block xml:space=\"preserve\"> 1" ∷ "    a" ∷ "     b" ∷ []) }
+    ensures math { Says (formulas tag.MathBlock ((Class, classed (codes "k" ∷ [])) ∷ (Name, called (codes "n")) ∷ []) 2 (codes "a\n\n\n\nb\n\n\n *c*"))
+        ("<math_block classes=\"k\" own_name=\"n\" xml:space=\"preserve\"> 2" ∷ "    a" ∷ "<math_block classes=\"k\" xml:space=\"preserve\"> 2" ∷ "    b"
+        ∷ "<math_block classes=\"k\" xml:space=\"preserve\"> 2" ∷ "    " ∷ "     *c*" ∷ []) }
 {}
 
 /// Images and figures (Directives, 'Image').

@@ -272,7 +272,7 @@ pub fn sidebars()
 {}
 
 /// Directives of the wider profile (Directives, 'Rubric', 'Parsed Literal Block', 'Raw Data Pass-Through', 'Including an External Document
-/// Fragment', 'Compound Paragraph', 'Container'), and a blank line after the first line of a directive (Markup Specification, 'Directives').
+/// Fragment', 'Compound Paragraph', 'Container', 'Line Block', 'Math'), and a blank line after the first line of a directive (Markup Specification, 'Directives').
 pub fn wider()
     ensures rubric { MeansWider (".. rubric:: A *small*" ∷ "   heading" ∷ "   :class: c" ∷ "   :name: My Name" ∷ []) 0
         ("<document> 0" ∷ "    <rubric classes=\"c\" own_name=\"my name\"> 1" ∷ "        A " ∷ "        <emphasis> 1" ∷ "            small" ∷ "        "
@@ -305,6 +305,24 @@ pub fn wider()
         ("<document> 0" ∷ "    <system_message level=\"3\"> 1" ∷ "        <paragraph> 1"
         ∷ "            Invalid class attribute value for \"container\" directive: \"1\"." ∷ "        <literal_block xml:space=\"preserve\"> 1"
         ∷ "            .. container:: 1" ∷ "            " ∷ "               x" ∷ []) }
+    ensures line_block { MeansWider (".. line-block:: a" ∷ "   :class: c" ∷ "   :name: N" ∷ "" ∷ "     b" ∷ "" ∷ "   d" ∷ []) 0
+        ("<document> 0" ∷ "    <line_block classes=\"c\" own_name=\"n\"> 1" ∷ "        <line> 1" ∷ "            a" ∷ "        <line> 4"
+        ∷ "        <line_block> 5" ∷ "            <line> 5" ∷ "                b" ∷ "            <line> 6" ∷ "        <line> 7" ∷ "            d" ∷ []) }
+    ensures message_of_a_line { MeansWider (".. line-block::" ∷ "" ∷ "   a" ∷ "   *b" ∷ []) 1
+        ("<document> 0" ∷ "    <line_block> 3" ∷ "        <line> 3" ∷ "            a" ∷ "        <line text_messages=\"1\"> 4"
+        ∷ "            <problematic message=\"0\"> 4" ∷ "                *" ∷ "            b" ∷ "    <system_message level=\"2\" message=\"0\"> 4"
+        ∷ "        <paragraph> 4" ∷ "            Inline emphasis start-string without end-string." ∷ []) }
+    ensures white_before_verse { MeansWider (".. line-block::" ∷ "" ∷ "   a" ∷ "   \u{3000}b" ∷ []) 0
+        ("<document> 0" ∷ "    <line_block> 3" ∷ "        <line> 3" ∷ "            a" ∷ "        <line_block> 4" ∷ "            <line> 4"
+        ∷ "                b" ∷ []) }
+    ensures math { MeansWider (".. math:: b" ∷ "   :class: k" ∷ "   :name: N" ∷ "" ∷ "   c" ∷ "     *d*" ∷ "" ∷ "" ∷ "   \\e" ∷ []) 0
+        ("<document> 0" ∷ "    <math_block classes=\"k\" own_name=\"n\" xml:space=\"preserve\"> 1" ∷ "        b"
+        ∷ "    <math_block classes=\"k\" xml:space=\"preserve\"> 1" ∷ "        c" ∷ "          *d*"
+        ∷ "    <math_block classes=\"k\" xml:space=\"preserve\"> 1" ∷ "        " ∷ "        \\e" ∷ []) }
+    ensures math_without_content { MeansWider (".. math::" ∷ []) 0
+        ("<document> 0" ∷ "    <system_message level=\"3\"> 1" ∷ "        <paragraph> 1"
+        ∷ "            Content block expected for the \"math\" directive; none found." ∷ "        <literal_block xml:space=\"preserve\"> 1"
+        ∷ "            .. math::" ∷ []) }
     ensures late_options { MeansWider (".. tip::" ∷ "" ∷ "   :a: b" ∷ []) 0
         ("<document> 0" ∷ "    <tip> 1" ∷ "        <field_list> 3" ∷ "            <field> 3" ∷ "                <field_name> 3" ∷ "                    a"
         ∷ "                <field_body> 3" ∷ "                    <paragraph> 3" ∷ "                        b" ∷ []) }

@@ -2,12 +2,12 @@
 
 // The elements that hold text: what is inside them has no line of its own.
 const TEXTUAL = new Set(("address attribution author caption classifier comment contact copyright date doctest_block field_name label line " +
-  "literal_block option_argument option_string organization paragraph raw revision rubric status subtitle substitution_definition term title " +
+  "literal_block math_block option_argument option_string organization paragraph raw revision rubric status subtitle substitution_definition term title " +
   "version").split(" "));
 const UNBROKEN = new Set("attribution caption doctest_block line paragraph subtitle title".split(" ")); // they end before a blank line
 const OF_ONE_LINE = new Set("classifier colspec field_name label option option_argument option_group option_string term transition".split(" "));
 const EXPLICIT = new Set(("admonition attention caution citation comment compound container danger error figure footnote hint image important " +
-  "literal_block note raw rubric sidebar substitution_definition target tip topic warning").split(" "));
+  "literal_block math_block note raw rubric sidebar substitution_definition target tip topic warning").split(" "));
 const GRID = /^\+-[-+]+-\+$/, SIMPLE = /^=+( +=+)+$/; // the borders at which a table begins
 const [BLOCK, INLINE, MESSAGE] = [0, 1, 2];
 

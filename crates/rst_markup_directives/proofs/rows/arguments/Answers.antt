@@ -11,6 +11,7 @@ returns c = record {
   with_language = refl;
   with_formats = refl;
   blank_lines_in_a_text = refl;
+  blank_lines_in_verse = refl;
   with_classes = refl;
   with_a_title_or_not = refl;
   no_classes = refl;

@@ -16,4 +16,5 @@ returns c = record {
   raw = refl;
   rubric = refl;
   parsed_literal = refl;
+  math = refl;
 }

@@ -16,5 +16,10 @@ returns c = record {
   compound = refl;
   container = refl;
   no_class_name = refl;
+  line_block = refl;
+  message_of_a_line = refl;
+  white_before_verse = refl;
+  math = refl;
+  math_without_content = refl;
   late_options = refl;
 }

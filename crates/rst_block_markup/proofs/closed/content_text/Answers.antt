@@ -5,8 +5,8 @@ use Rattle.rst_text.specs.Block.{Block}
 use Rattle.rst_text.specs.ViewBlock.{block_of}
 use Rattle.rst_block_state.specs.Texts.{lines_in, spelled}
 use Rattle.rst_block_state.proofs.Spelling.{spelled_append}
-use Rattle.rst_block_markup.proofs.directive.content_text.Goals.{then-len-gt0+in_ok-push+in_ok-more+in_ok-push_str, else-len-gt0}
-use Rattle.rst_block_markup.proofs.directive.content_text.Goals as goal
+use Rattle.rst_block_markup.proofs.closed.content_text.Goals.{then-len-gt0+in_ok-push+in_ok-more+in_ok-push_str, else-len-gt0}
+use Rattle.rst_block_markup.proofs.closed.content_text.Goals as goal
 
 pub returns-then-len-eq0-clause-bytes : goal.returns-then-len-eq0-clause-bytes
 returns-then-len-eq0-clause-bytes c =

@@ -7,7 +7,7 @@ use Rattle.rst_markup_directives.specs.Options.{choices_in}
 use Rattle.rst_block_nodes.specs.Options.{image_element}
 use Rattle.rst_block_state.specs.Directives.{element_by}
 use Rattle.rst_block_markup.specs.MarkupSteps.{read_of_directive}
-use Rattle.rst_block_markup.proofs.directive.closed_element.Goals as goal
+use Rattle.rst_block_markup.proofs.closed.closed_element.Goals as goal
 
 pub returns-in_ok-image-in-Uri-clause-element : goal.returns-in_ok-image-in-Uri-clause-element
 returns-in_ok-image-in-Uri-clause-element c =

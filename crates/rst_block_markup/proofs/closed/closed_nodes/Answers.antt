@@ -12,7 +12,7 @@ use Rattle.rst_block_state.specs.Texts.{joined}
 use Rattle.rst_block_state.proofs.Spelling.{chars_spelled}
 use Rattle.rst_block_markup.specs.MarkupSteps.{HoldsNodes, read_of_directive}
 use Rattle.rst_block_markup.proofs.DirectiveReads.{text_is}
-use Rattle.rst_block_markup.proofs.directive.closed_nodes.Goals as goal
+use Rattle.rst_block_markup.proofs.closed.closed_nodes.Goals as goal
 
 pub returns-then-is_marked-clause-read : goal.returns-then-is_marked-clause-read
 returns-then-is_marked-clause-read c =

@@ -1,0 +1,10 @@
+use Rattle.std.proofs.Common.{refl}
+use Rattle.rst2pseudoxml_run.proofs.Computing.{rst2pseudoxml_run}
+use Rattle.rst2pseudoxml_run.proofs.rows.wider.verse_and_formulas.Goals as goal
+
+pub returns : goal.returns
+unfolding rst2pseudoxml_run
+returns c = record {
+  verse = refl;
+  formulas = refl;
+}
