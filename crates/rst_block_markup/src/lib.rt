@@ -4,9 +4,11 @@
 mod directive;
 mod explicit;
 mod figure;
+mod quotes;
 mod single;
 mod substitution;
 
 pub use explicit::explicit_markup;
 pub use figure::finished_figure;
+pub use quotes::finished_quotes;
 pub use substitution::finished_replacement;

@@ -54,7 +54,11 @@ pub(crate) fn content_fault(
     match (kind.content, empty) {
         (ContentKind::Empty, false) => Some(DirectiveFault::Inside(Detail::ContentNotPermitted)),
         (
-            ContentKind::Lines | ContentKind::Marked | ContentKind::Blocks | ContentKind::Paragraph,
+            ContentKind::Lines
+            | ContentKind::Marked
+            | ContentKind::Blocks
+            | ContentKind::Quotes(_)
+            | ContentKind::Paragraph,
             true,
         ) => Some(DirectiveFault::NoContent),
         (ContentKind::Paragraph, false) if !paragraph => {

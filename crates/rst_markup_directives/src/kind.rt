@@ -66,10 +66,20 @@ pub enum ContentKind {
     Marked,
     /// Body elements, at least one.
     Blocks,
+    /// Block quotes of a class, at least one.
+    Quotes(QuoteClass),
     /// One paragraph.
     Paragraph,
     /// A caption and a legend, or nothing.
     Caption,
+}
+
+/// The class of block quotes that a directive makes.
+#[derive(Clone, Copy, Debug, PartialEq, Eq)]
+pub enum QuoteClass {
+    Epigraph,
+    Highlights,
+    PullQuote,
 }
 
 /// Where a directive is allowed.
@@ -102,7 +112,8 @@ pub enum PartName {
 /// A directive: its name, the part that has it, and its element, argument, options and content, and where it is allowed.
 macro_rules! row {
     (
-        $name:literal in $part:ident: $element:ident, $argument:ident, $options:ident, $content:ident, $allowed:ident
+        $name:literal in $part:ident:
+        $element:ident, $argument:ident, $options:ident, $content:ident $(($class:ident))?, $allowed:ident
     ) => {
         (
             $name,
@@ -112,7 +123,7 @@ macro_rules! row {
                     element: Tag::$element,
                     argument: ArgumentKind::$argument,
                     options: OptionSet::$options,
-                    content: ContentKind::$content,
+                    content: ContentKind::$content $((QuoteClass::$class))?,
                     allowed: Allowed::$allowed,
                 },
             ),
@@ -121,7 +132,7 @@ macro_rules! row {
 }
 
 /// The directives by their names.
-const DIRECTIVES: [(&str, (PartName, Kind)); 24] = [
+const DIRECTIVES: [(&str, (PartName, Kind)); 27] = [
     row!("code" in Code: LiteralBlock, Language, Common, Lines, Body),
     row!("code-block" in Code: LiteralBlock, Language, Common, Lines, Body),
     row!("sourcecode" in Code: LiteralBlock, Language, Common, Lines, Body),
@@ -146,6 +157,9 @@ const DIRECTIVES: [(&str, (PartName, Kind)); 24] = [
     row!("compound" in Wider: Compound, Absent, Common, Blocks, Body),
     row!("container" in Wider: Container, Classes, NameAlone, Blocks, Body),
     row!("sidebar" in Wider: Sidebar, OptionalTitle, Sidebar, Blocks, Beside),
+    row!("epigraph" in Wider: BlockQuote, Absent, Empty, Quotes(Epigraph), Body),
+    row!("highlights" in Wider: BlockQuote, Absent, Empty, Quotes(Highlights), Body),
+    row!("pull-quote" in Wider: BlockQuote, Absent, Empty, Quotes(PullQuote), Body),
 ];
 
 /// Whether a text names a directive of the wider profile, without regard to the case of letters of ASCII.
@@ -195,7 +209,10 @@ impl ContentKind {
     {
         matches!(
             self,
-            ContentKind::Blocks | ContentKind::Paragraph | ContentKind::Caption
+            ContentKind::Blocks
+                | ContentKind::Quotes(_)
+                | ContentKind::Paragraph
+                | ContentKind::Caption
         )
     }
 
@@ -206,11 +223,35 @@ impl ContentKind {
         self == ContentKind::Marked
     }
 
+    /// How many columns of its indentation the content keeps.
+    pub(crate) fn kept_columns(self) -> usize
+        ensures { result ≡ spec.kept_columns self }
+    {
+        if matches!(self, ContentKind::Quotes(_)) {
+            1
+        } else {
+            0
+        }
+    }
+
     /// Whether the content is one text.
     pub(crate) fn is_text(self) -> bool
         ensures { result ≡ spec.is_text self }
     {
         matches!(self, ContentKind::Lines | ContentKind::Marked)
+    }
+}
+
+impl QuoteClass {
+    /// The class as it is written.
+    pub fn name(self) -> &'static str
+        ensures { result.now ≡ spec.quote_class self }
+    {
+        match self {
+            QuoteClass::Epigraph => "epigraph",
+            QuoteClass::Highlights => "highlights",
+            QuoteClass::PullQuote => "pull-quote",
+        }
     }
 }
 

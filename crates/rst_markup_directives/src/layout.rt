@@ -43,7 +43,7 @@ pub(crate) fn layout_of(parts: Parts, kind: Kind, run: &[&str], all: usize, rest
     ensures second { length run.now ≤ all → rest ≤ all → result.second ≤ all }
 {
     match (kind.content, kind.argument) {
-        (ContentKind::Paragraph, _) => content_alone(run, all),
+        (ContentKind::Paragraph | ContentKind::Quotes(_), _) => content_alone(run, all),
         (ContentKind::Marked, ArgumentKind::Absent) => {
             let from = before_field(parts, run);
             parts_without_argument(parts, run, all, if from == 0 { rest } else { run.len() })
