@@ -9,7 +9,7 @@ use Rattle.rst_settings.specs.declared.Parts.{Parts}
 use Rattle.rst_text.specs.Block.{Block, first_number, first_text, first_parts}
 use Rattle.rst_tree.specs.Attributes.{attr, value_of, with_attr}
 use Rattle.rst_tree.specs.declared.attrs.Attr.{Attr}
-use Rattle.rst_tree.specs.declared.attrs.Value.TheVariants.{Text as TextValue}
+use Rattle.rst_tree.specs.declared.attrs.Value.TheVariants.{List as Listed, Text as TextValue}
 use Rattle.rst_tree.specs.declared.key.Key.{Key}
 use Rattle.rst_tree.specs.declared.key.Key.TheVariants.{Classes, Format, Uri, XmlSpace}
 use Rattle.rst_tree.specs.declared.node.Node.{Node}
@@ -17,7 +17,7 @@ use Rattle.rst_tree.specs.declared.node.Node.TheVariants.{Element, Text as Words
 use Rattle.rst_tree.specs.declared.note.Level.{Level}
 use Rattle.rst_tree.specs.declared.note.Level.TheVariants.{Error, Warning}
 use Rattle.rst_tree.specs.declared.tag.Tag.{Tag}
-use Rattle.rst_tree.specs.declared.tag.Tag.TheVariants.{Admonition, Caption as CaptionTag, Comment, Figure as FigureTag, Image, Legend, Paragraph, SubstitutionDefinition, Subtitle as SubtitleTag, Title as TitleTag}
+use Rattle.rst_tree.specs.declared.tag.Tag.TheVariants.{Admonition, BlockQuote, Caption as CaptionTag, Comment, Figure as FigureTag, Image, Legend, Paragraph, SubstitutionDefinition, Subtitle as SubtitleTag, Title as TitleTag}
 use Rattle.rst_tree.specs.Forest.{bare}
 use Rattle.rst_tree.specs.Nodes.{forest_of}
 use Rattle.rst_markup_blocks.specs.declared.forms.Invocation.{Invocation}
@@ -25,10 +25,13 @@ use Rattle.rst_markup_blocks.specs.Partition.{Span}
 use Rattle.rst_markup_directives.specs.Argument.{ArgumentMeaning, title, uri, language, formats, classes}
 use Rattle.rst_markup_directives.specs.declared.found.Content.{Content}
 use Rattle.rst_markup_directives.specs.declared.found.Place.TheVariants.{Substitution}
+use Rattle.rst_markup_directives.specs.declared.kind.ContentKind.{ContentKind}
+use Rattle.rst_markup_directives.specs.declared.kind.ContentKind.TheVariants.{Quotes}
+use Rattle.rst_markup_directives.specs.declared.kind.QuoteClass.{QuoteClass}
 use Rattle.rst_markup_directives.specs.declared.option.OptionName.{OptionName}
 use Rattle.rst_markup_directives.specs.declared.option.OptionName.TheVariants.{Name, Subtitle}
 use Rattle.rst_markup_directives.specs.Directive.{Read}
-use Rattle.rst_markup_directives.specs.Kind.{has_blocks, is_marked}
+use Rattle.rst_markup_directives.specs.Kind.{has_blocks, is_marked, quote_class}
 use Rattle.rst_markup_directives.specs.Message.{fault_level, fault_text}
 use Rattle.rst_markup_directives.specs.Options.{OptionSetting}
 use Rattle.rst_markup_directives.specs.Value.{Meaning}
@@ -41,7 +44,7 @@ use Rattle.rst_block_nodes.specs.Sections.{filled}
 use Rattle.rst_block_nodes.specs.Targets.{may_replace}
 use Rattle.rst_block_nodes.specs.Texts.{counting}
 use Rattle.rst_block_nodes.specs.Values.{normalized, unescaped}
-use Rattle.rst_block_state.specs.Directives.{closed_by, content_lines, content_nodes, definition_nodes, definition_or_error, directive_by, directive_nodes, element_by, faulty_name, first_paragraph, opened_by, right_nodes, substitution_nodes, text_nodes as text_of_directive, titled_element, titled_start}
+use Rattle.rst_block_state.specs.Directives.{classed, closed_by, content_lines, content_nodes, definition_nodes, definition_or_error, directive_by, directive_nodes, element_by, faulty_name, first_paragraph, holding, opened_by, right_nodes, substitution_nodes, text_nodes as text_of_directive, titled_element, titled_start}
 use Rattle.rst_block_state.specs.Figures.{figure_nodes, legend_nodes, message_count}
 use Rattle.rst_block_state.specs.LineRuns.{number_or}
 use Rattle.rst_block_state.specs.Numbered.{just}
@@ -58,7 +61,7 @@ use Rattle.rst_block_laws.proofs.Gives.{Gives, after, give, gives}
 use Rattle.rst_tree_laws.proofs.Have.{with_attr_has, without_key_has}
 use Rattle.rst_block_laws.proofs.LineFits.{texted_fit}
 use Rattle.rst_block_laws.proofs.LineTexts.{excerpt_has, first_kept, joined_kept, lines_kept, source_has, spelled_has}
-use Rattle.rst_tree_laws.proofs.Lists.{all_append, all_drop, all_take}
+use Rattle.rst_tree_laws.proofs.Lists.{all_append, all_drop, all_map, all_take}
 use Rattle.rst_tree_laws.proofs.Properties.{Suited, fixed_has, normalized_kept, unescaped_kept}
 use Rattle.rst_block_laws.proofs.Weights.{HoldsAny, Open, light_at, open_counts}
 use borrow.Author.Tests.{le-leb}
@@ -199,6 +202,16 @@ module _ (P : ℕ → Bool) (T : List ℕ → Type 0) (s : Suited P T) (c : With
   content_fit : (B : Block) (content : Content) → BlockKept P B → Gives (AllFit T k) (content_nodes c B content)
   content_fit B content b = after (inside _ (lines_kept P B content.first b)) (λ nodes low. after (inside _ (lines_kept P B content.second b)) (λ more rest. give (all_append _ nodes more low rest)))
 
+  -- a directive's element with its content, or block quotes with their class
+  classed_fits : (class : QuoteClass) (n : Node) → Fits T k n → Fits T (k + 2) (classed class n)
+  classed_fits class (Element BlockQuote a content line) h = (omega (arith, h.0), (with_attr_has T Classes (Listed (quote_class class ∷ [])) a tt h.1.0, h.1.1))
+  classed_fits class (Element _ a content line) h = (omega (arith, h.0), h.1)
+  classed_fits class (Words t) h = (omega (arith, h.0), h.1)
+
+  holding_fit : (content : ContentKind) (t : Tag) (a : List Attr) (line : ℕ) (nodes : List Node) → Open t → AttrsHave T a → AllFit T k nodes → AllFit T (k + 2) (holding content (Element t a bare line) nodes)
+  holding_fit (Quotes class) t a line nodes any own low = all_map (Fits T k) (Fits T (k + 2)) (classed class) (classed_fits class) nodes low
+  holding_fit _ t a line nodes any own low = (open_fits T t a line k (k + 2) nodes any own low (omega arith), tt)
+
   opened_fits : (a : ArgumentMeaning) (B : Block) (line : ℕ) (read : Read) (lines : List ℕ) → BlockKept P B → ReadHas P T s read → T lines → Gives (AllFit T (k + 2)) (opened_by a c B line read lines)
   opened_fits (title part) B line read lines b h l =
       after (start_fits line read (lines_in B part) (lines_kept P B part b) h)
@@ -208,7 +221,7 @@ module _ (P : ℕ → Bool) (T : List ℕ → Type 0) (s : Suited P T) (c : With
       after (content_fit B read.content b) (λ nodes low. give (figure_fit _ _ nodes (λ c. refl) (open_fits T FigureTag _ line 2 (k + 2) (_ ∷ []) (λ c. refl) (chosen_has _ (elim [ Name ↦ λ m h. tt | _ ↦ λ m h. tt ]) read.options [] h.1 tt) (image.0, tt) (omega arith))
       (message_fits T (k + 2) (omega arith) Error line _ (Some lines) (fixed_has P T s _ refl) l) low))
   opened_fits _ B line read lines b h l =
-      after (content_fit B read.content b) (λ nodes low. give_one (open_fits T read.kind.element _ line k (k + 2) nodes h.0 (given_has read.argument _ (body_has read [] h tt)) low (omega arith)))
+      after (content_fit B read.content b) (λ nodes low. give (holding_fit read.kind.content read.kind.element _ line nodes h.0 (given_has read.argument _ (body_has read [] h tt)) low))
 
   closed_one : (given : ArgumentMeaning) (B : Block) (line : ℕ) (read : Read) → BlockKept P B → ReadHas P T s read → Gives (AllFit T (k + 2)) (just (element_by given None B line read ∷ []))
   closed_one given B line read b h = let own = element_fits given None B line read tt b h in give_one (omega (arith, own.0.0), own.0.1)
