@@ -173,8 +173,8 @@ module _ (P : ℕ → Bool) (T : List ℕ → Type 0) (s : Suited P T) (c : With
       after (gives (λ n. texted_fit P T s parts (k + 1) 3 (omega arith) (omega arith) TitleTag at (joined lines) at n (λ c. refl) (joined_kept P T s lines b)))
       (λ made own. after (subtitle_fits parts (subtitle_chosen read.options) line (subtitle_has read.options h.1))
       (λ more others.
-      let notes = fit_more T 3 (k + 1) (made.1 ++ more.1) (omega arith) (all_append (Fits T 3) made.1 more.1 own.1 others.1) in
-      let inside = (own.0, all_append (Fits T (k + 1)) more.0 (made.1 ++ more.1) others.0 notes) in
+      let first = all_append (Fits T (k + 1)) more.0 made.1 others.0 (fit_more T 3 (k + 1) made.1 (omega arith) own.1) in
+      let inside = (own.0, all_append (Fits T (k + 1)) (more.0 ++ made.1) more.1 first (fit_more T 3 (k + 1) more.1 (omega arith) others.1)) in
       give (
         titled_open read.kind.element read.kind.element _ line made.0 _ h.0,
         titled_fits read.kind.element read.kind.element _ line made.0 _ h.0 (given_has read.argument _ (body_has read [] h tt)) inside,

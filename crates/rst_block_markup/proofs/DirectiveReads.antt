@@ -92,8 +92,8 @@ titled_comes old new B read lines end n m line at node s h l e a moved =
 
 -- a content without a class is held by the directive's element
 pub held : (content : ContentKind) (element : Node) (ns : List Node) → ((class : QuoteClass) → content ≡ Quotes class → ⊥) → holding content element ns ≡ filled element ns ∷ []
-held (Quotes class) element ns no = absurd (no class refl)
-held _ element ns no = refl
+held (Quotes class) element ns none = absurd (none class refl)
+held _ element ns none = refl
 
 pub plain_comes : (old new : OpenBlock) (B : Block) (read : Read) (end n at : ℕ) (w : Waits) (s : Step)
     → ((ns : List Node) → resumed new B w ns ≡ reads_from new B (holding read.kind.content (directive_element read.kind.element read.argument read.options at) ns) new.at)

@@ -1,4 +1,4 @@
-use Rattle.std.proofs.Common.{List, drop, arith, refl, sym, ap, ◌∙◌}
+use Rattle.std.proofs.Common.{List, [], ◌∷◌, drop, arith, refl, sym, ap, ◌∙◌}
 use Rattle.rst_text.specs.Block.{first_number}
 use Rattle.rst_text.specs.ViewBlock.{block_of}
 use Rattle.rst_tree.specs.declared.node.Node.{Node}
@@ -40,6 +40,6 @@ returns c = λ pass.
     ∙ ap (directive_element f.kind.element (given_in f.argument) (choices_in f.options.items)) c.number_at-line.ensures in
     content_reads (Element c.in_ok-node.node) f.content opened.opened tt tt c.requires.content c.requires.later opened.moved opened.at
     (plain_comes l new B (read_of_directive f) f.end pass.numbers (first_number (drop l.at B)) (Element c.in_ok-node.node) c.opened-2.result
-    (λ ns. ap (λ (x : List Node). reads_from new B x new.at) (ap (λ (x : Node). filled x ns ∷ []) node ∙ sym (held f.kind.content _ ns (λ class e. ?))))
+    (λ ns. ap (λ (x : List Node). reads_from new B x new.at) (ap (λ (x : Node). filled x ns ∷ []) node ∙ sym (held f.kind.content _ ns c.in_default.not-Quotes)))
     opened.opened opened.at opened.moved)
     refl (omega arith) (omega arith)
