@@ -38,7 +38,7 @@ use Rattle.rst_markup_directives.specs.Value.{Meaning}
 use Rattle.rst_markup_directives.specs.Wrong.{Fault, disabled, inside as within, invalid_classes, no_content, not_in_substitution, sidebar_not_here, unknown_directive}
 use Rattle.rst_block_nodes.specs.Admonitions.{title_class}
 use Rattle.rst_block_nodes.specs.Elements.{element_of, preserving, substitution_definition_node, text_nodes}
-use Rattle.rst_block_nodes.specs.Options.{body_attrs, given_attrs, image_node, link_attrs, link_chosen, link_meant, linked_by, literal_element, subtitle_chosen, subtitle_meant, with_alt, value_meant, with_value_at}
+use Rattle.rst_block_nodes.specs.Options.{body_attrs, directive_element, given_attrs, image_node, link_attrs, link_chosen, link_meant, linked_by, literal_element, subtitle_chosen, subtitle_meant, with_alt, value_meant, with_value_at}
 use Rattle.rst_block_nodes.specs.Readings.{read_nodes, read_notes, subtitled}
 use Rattle.rst_block_nodes.specs.Sections.{filled}
 use Rattle.rst_block_nodes.specs.Targets.{may_replace}
@@ -48,7 +48,7 @@ use Rattle.rst_block_state.specs.Directives.{classed, closed_by, content_lines, 
 use Rattle.rst_block_state.specs.Figures.{figure_nodes, legend_nodes, message_count}
 use Rattle.rst_block_state.specs.LineRuns.{number_or}
 use Rattle.rst_block_state.specs.Numbered.{just}
-use Rattle.rst_block_state.specs.Texts.{excerpt, joined, lines_in, message_with_lines, span_source, spelled}
+use Rattle.rst_block_state.specs.Texts.{excerpt, joined, lines_in, message_with_lines, span_source, spelled, texted}
 use Rattle.rst_block_state.specs.Within.{Within}
 use Rattle.rst_tree_laws.specs.Texts.{AttrsHave, BlockKept, Kept, ValueHas, becomes_text}
 use Rattle.rst_tree_index.specs.Parsed.{levels_by}
@@ -59,7 +59,7 @@ use Rattle.rst_block_laws.proofs.MessageFits.{read_notes_fit}
 use Rattle.rst_block_laws.proofs.Fits.{AllFit, Fits, counting_has, definition_fits, filled_fits, fit_forest, fit_more, fit_nodes, message_fits, open_fits}
 use Rattle.rst_block_laws.proofs.Gives.{Gives, after, give, gives}
 use Rattle.rst_tree_laws.proofs.Have.{with_attr_has, without_key_has}
-use Rattle.rst_block_laws.proofs.LineFits.{texted_fit}
+use Rattle.rst_block_laws.proofs.LineFits.{PairFits, texted_fit}
 use Rattle.rst_block_laws.proofs.LineTexts.{excerpt_has, first_kept, joined_kept, lines_kept, source_has, spelled_has}
 use Rattle.rst_tree_laws.proofs.Lists.{all_append, all_drop, all_map, all_take}
 use Rattle.rst_tree_laws.proofs.Properties.{Suited, fixed_has, normalized_kept, unescaped_kept}
@@ -163,19 +163,23 @@ module _ (P : ℕ → Bool) (T : List ℕ → Type 0) (s : Suited P T) (c : With
 
   subtitle_fits : (parts : Parts) (t : Option (List ℕ)) (line : ℕ) → IfSome t (Kept P) → Gives (λ made. AllFit T (k + 1) made.0 × AllFit T 3 made.1) (subtitled parts t line)
   subtitle_fits parts None line h = give (tt, tt)
-  subtitle_fits parts (Some t) line h = after (gives (λ n. texted_fit P T s parts (k + 1) 3 (omega arith) (omega arith) SubtitleTag line t line n (λ c. refl) h)) (λ made own. give ((own.0, tt), own.1))
+  subtitle_fits parts (Some t) line h =
+      let read : Gives (PairFits P T s (k + 1) 3) (texted parts SubtitleTag line t line) = gives (λ n. texted_fit P T s parts (k + 1) 3 (omega arith) (omega arith) SubtitleTag line t line n (λ c. refl) h) in
+      after read (λ (made : Node × List Node) own. give {a = (made.0 ∷ [], made.1)} ((own.0, tt), own.1))
 
   -- what a directive begins with that has a title
   start_fits : (line : ℕ) (read : Read) (lines : Block) → BlockKept P lines → ReadHas P T s read → Gives (λ n. HoldsAny n × Fits T (k + 2) n) (titled_start line read lines)
   start_fits line read lines b h =
       let parts : Parts = first_parts lines in
       let at : ℕ = number_or line lines in
-      after (gives (λ n. texted_fit P T s parts (k + 1) 3 (omega arith) (omega arith) TitleTag at (joined lines) at n (λ c. refl) (joined_kept P T s lines b)))
-      (λ made own. after (subtitle_fits parts (subtitle_chosen read.options) line (subtitle_has read.options h.1))
-      (λ more others.
+      let read_title : Gives (PairFits P T s (k + 1) 3) (texted parts TitleTag at (joined lines) at) = gives (λ n. texted_fit P T s parts (k + 1) 3 (omega arith) (omega arith) TitleTag at (joined lines) at n (λ c. refl) (joined_kept P T s lines b)) in
+      after read_title
+      (λ (made : Node × List Node) own. after (subtitle_fits parts (subtitle_chosen read.options) line (subtitle_has read.options h.1))
+      (λ (more : List Node × List Node) others.
       let first = all_append (Fits T (k + 1)) more.0 made.1 others.0 (fit_more T 3 (k + 1) made.1 (omega arith) own.1) in
-      let inside = (own.0, all_append (Fits T (k + 1)) (more.0 ++ made.1) more.1 first (fit_more T 3 (k + 1) more.1 (omega arith) others.1)) in
-      give (
+      let inside : AllFit T (k + 1) (made.0 ∷ more.0 ++ made.1 ++ more.1) = (own.0, all_append (Fits T (k + 1)) (more.0 ++ made.1) more.1 first (fit_more T 3 (k + 1) more.1 (omega arith) others.1)) in
+      let node : Node = filled (titled_element read.kind.element (directive_element read.kind.element read.argument read.options line) made.0) (made.0 ∷ more.0 ++ made.1 ++ more.1) in
+      give {a = node} (
         titled_open read.kind.element read.kind.element _ line made.0 _ h.0,
         titled_fits read.kind.element read.kind.element _ line made.0 _ h.0 (given_has read.argument _ (body_has read [] h tt)) inside,
       )))
