@@ -31,7 +31,7 @@ SECTIONS = {
         Strong Emphasis; Interpreted Text; Inline Literals; Hyperlink References; Embedded URIs and Aliases; Inline Internal Targets;
         Footnote References; Citation References; Substitution References; Standalone Hyperlinks; Units; Length Units; Percentage Units;
         Error Handling""",
-    "Directives": """Specific Admonitions; Generic Admonition; Image; Figure; Topic; Sidebar; Code; Parsed Literal Block; Rubric; Compound Paragraph; Container;
+    "Directives": """Specific Admonitions; Generic Admonition; Image; Figure; Topic; Sidebar; Epigraph; Highlights; Pull-Quote; Code; Parsed Literal Block; Rubric; Compound Paragraph; Container;
         Replacement Text; Including an External Document Fragment; Raw Data Pass-Through; Common Options; Identifier Normalization""",
     "Roles": "Standard Roles",
     "Document Tree": "Introduction; Element Reference; Attribute Reference",

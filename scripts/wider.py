@@ -465,6 +465,56 @@ Instead, use the "role" directive to create a new role with an associated format
 """,
     ),
     (
+        "block quotes of a class",
+        ".. epigraph::\n\n   A *b*\n\n   -- c `d\n\n   - e\n\n   -- f\n\n.. Highlights:: g\n   h\n\n.. pull-quote::\n   :class: i\n\nend\n\n.. epigraph::\n",
+        """\
+<document source="<stdin>">
+    <block_quote classes="epigraph">
+        <paragraph>
+            A 
+            <emphasis>
+                b
+        <attribution>
+            c 
+            <problematic ids="problematic-1" refid="system-message-1">
+                `
+            d
+    <system_message backrefs="problematic-1" ids="system-message-1" level="2" line="5" source="<stdin>" type="WARNING">
+        <paragraph>
+            Inline interpreted text or phrase reference start-string without end-string.
+    <block_quote classes="epigraph">
+        <bullet_list bullet="-">
+            <list_item>
+                <paragraph>
+                    e
+        <attribution>
+            f
+    <block_quote classes="highlights">
+        <paragraph>
+            g
+            h
+    <block_quote classes="pull-quote">
+        <field_list>
+            <field>
+                <field_name>
+                    class
+                <field_body>
+                    <paragraph>
+                        i
+    <paragraph>
+        end
+    <system_message level="3" line="19" source="<stdin>" type="ERROR">
+        <paragraph>
+            Content block expected for the "epigraph" directive; none found.
+        <literal_block xml:space="preserve">
+            .. epigraph::
+""",
+        """\
+<stdin>:5: (WARNING/2) Inline interpreted text or phrase reference start-string without end-string.
+<stdin>:19: (ERROR/3) Content block expected for the "epigraph" directive; none found.
+""",
+    ),
+    (
         "a line block by its directive",
         ".. line-block:: a\n   :class: verse\n   :name: Here\n\n     b *c*\n\n   `d`\n",
         """\

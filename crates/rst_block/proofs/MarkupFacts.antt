@@ -101,7 +101,7 @@ embedded_is c B i n h inside = by (directive_mark_of false (drop n (first_text (
     by (Some d) tells =
         let call : Invocation = call_of i n d X in
         let k = call_is B i n d h inside tells in
-        more_within (length (lines_in B call.block)) (hanging_size X) _ k.2 (directive_within c B i call InDefinition k.0 k.1)
+        more_within (length (lines_in B call.block)) (hanging_size X) _ k.2 (directive_within c B i call InDefinition h k.0 k.1)
 
 label_is : (c : Within) (B : Block) (i : ℕ) (k : LabelKind) (label : Characters) (body : Part) → IsFronted (lines_in B body) → length (lines_in B body) ≤ hanging_size (drop i B)
     → HaveAtMostLines (hanging_size (drop i B)) (markup_blocks (label_with k label body) c B i)
@@ -127,7 +127,7 @@ form_is c B i m (Directive d) h inside tells =
     let X : Block = drop i B in
     let call : Invocation = call_of i m.cut d X in
     let k = call_is B i m.cut d h inside tells in
-    more_within (length (lines_in B call.block)) (call.block.to - i) _ (omega (arith, k.2, (hanging_from i (m.cut + d.marker.cut) d.marker.bare X).1)) (directive_within c B i call (cond c.titles Top Body) k.0 k.1)
+    more_within (length (lines_in B call.block)) (call.block.to - i) _ (omega (arith, k.2, (hanging_from i (m.cut + d.marker.cut) d.marker.bare X).1)) (directive_within c B i call (cond c.titles Top Body) h k.0 k.1)
 form_is c B i m _ h inside tells = none_within _
 
 -- ---- explicit markup

@@ -9,7 +9,7 @@ use Rattle.rst_settings.specs.declared.Parts.{Parts}
 use Rattle.rst_text.specs.Block.{Block, first_number, first_text, first_parts}
 use Rattle.rst_tree.specs.Attributes.{attr, value_of, with_attr}
 use Rattle.rst_tree.specs.declared.attrs.Attr.{Attr}
-use Rattle.rst_tree.specs.declared.attrs.Value.TheVariants.{Text as TextValue}
+use Rattle.rst_tree.specs.declared.attrs.Value.TheVariants.{List as Listed, Text as TextValue}
 use Rattle.rst_tree.specs.declared.key.Key.{Key}
 use Rattle.rst_tree.specs.declared.key.Key.TheVariants.{Classes, Format, Uri, XmlSpace}
 use Rattle.rst_tree.specs.declared.node.Node.{Node}
@@ -17,7 +17,7 @@ use Rattle.rst_tree.specs.declared.node.Node.TheVariants.{Element, Text as Words
 use Rattle.rst_tree.specs.declared.note.Level.{Level}
 use Rattle.rst_tree.specs.declared.note.Level.TheVariants.{Error, Warning}
 use Rattle.rst_tree.specs.declared.tag.Tag.{Tag}
-use Rattle.rst_tree.specs.declared.tag.Tag.TheVariants.{Admonition, Caption as CaptionTag, Comment, Figure as FigureTag, Image, Legend, Paragraph, SubstitutionDefinition, Subtitle as SubtitleTag, Title as TitleTag}
+use Rattle.rst_tree.specs.declared.tag.Tag.TheVariants.{Admonition, BlockQuote, Caption as CaptionTag, Comment, Figure as FigureTag, Image, Legend, Paragraph, SubstitutionDefinition, Subtitle as SubtitleTag, Title as TitleTag}
 use Rattle.rst_tree.specs.Forest.{bare}
 use Rattle.rst_tree.specs.Nodes.{forest_of}
 use Rattle.rst_markup_blocks.specs.declared.forms.Invocation.{Invocation}
@@ -26,18 +26,19 @@ use Rattle.rst_markup_directives.specs.Argument.{ArgumentMeaning, title, uri, la
 use Rattle.rst_markup_directives.specs.declared.found.Content.{Content}
 use Rattle.rst_markup_directives.specs.declared.found.Place.TheVariants.{Substitution}
 use Rattle.rst_markup_directives.specs.declared.kind.ContentKind.{ContentKind}
-use Rattle.rst_markup_directives.specs.declared.kind.ContentKind.TheVariants.{Marked, Verse, Formulas}
+use Rattle.rst_markup_directives.specs.declared.kind.ContentKind.TheVariants.{Marked, Verse, Formulas, Quotes}
+use Rattle.rst_markup_directives.specs.declared.kind.QuoteClass.{QuoteClass}
 use Rattle.rst_markup_directives.specs.declared.option.OptionName.{OptionName}
 use Rattle.rst_markup_directives.specs.declared.option.OptionName.TheVariants.{Name, Subtitle}
 use Rattle.rst_markup_directives.specs.Directive.{Read}
-use Rattle.rst_markup_directives.specs.Kind.{has_blocks}
+use Rattle.rst_markup_directives.specs.Kind.{has_blocks, quote_class}
 use Rattle.rst_markup_directives.specs.Message.{fault_level, fault_text}
 use Rattle.rst_markup_directives.specs.Options.{OptionSetting}
 use Rattle.rst_markup_directives.specs.Value.{Meaning}
 use Rattle.rst_markup_directives.specs.Wrong.{Fault, disabled, inside as within, invalid_classes, no_content, not_in_substitution, sidebar_not_here, unknown_directive}
 use Rattle.rst_block_nodes.specs.Admonitions.{title_class}
 use Rattle.rst_block_nodes.specs.Elements.{element_of, preserving, substitution_definition_node, text_nodes}
-use Rattle.rst_block_nodes.specs.Options.{body_attrs, given_attrs, image_node, link_attrs, link_chosen, link_meant, linked_by, literal_element, subtitle_chosen, subtitle_meant, with_alt, value_meant, with_value_at, with_choices, with_options}
+use Rattle.rst_block_nodes.specs.Options.{body_attrs, given_attrs, image_node, link_attrs, link_chosen, link_meant, linked_by, literal_element, subtitle_chosen, subtitle_meant, with_alt, value_meant, with_value_at, with_choices, with_options, directive_element}
 use Rattle.rst_block_nodes.specs.Readings.{read_nodes, read_notes, subtitled}
 use Rattle.rst_block_nodes.specs.Formulas.{formula, formulas_from, parts_of}
 use Rattle.rst_block_nodes.specs.declared.settings.Holder.{Holder}
@@ -46,11 +47,11 @@ use Rattle.rst_block_nodes.specs.Sections.{filled}
 use Rattle.rst_block_nodes.specs.Targets.{may_replace}
 use Rattle.rst_block_nodes.specs.Texts.{counting}
 use Rattle.rst_block_nodes.specs.Values.{normalized, unescaped}
-use Rattle.rst_block_state.specs.Directives.{closed_by, content_lines, content_nodes, definition_nodes, definition_or_error, directive_by, directive_nodes, element_by, faulty_name, first_paragraph, opened_by, right_nodes, substitution_nodes, text_nodes as text_of_directive, titled_element, titled_start, closed_with, verse_nodes}
+use Rattle.rst_block_state.specs.Directives.{closed_by, content_lines, content_nodes, definition_nodes, definition_or_error, directive_by, directive_nodes, element_by, faulty_name, first_paragraph, opened_by, right_nodes, substitution_nodes, text_nodes as text_of_directive, titled_element, titled_start, closed_with, verse_nodes, classed, holding}
 use Rattle.rst_block_state.specs.Figures.{figure_nodes, legend_nodes, message_count}
 use Rattle.rst_block_state.specs.LineRuns.{number_or, verse_lines}
 use Rattle.rst_block_state.specs.Numbered.{just}
-use Rattle.rst_block_state.specs.Texts.{excerpt, joined, lines_in, message_with_lines, span_source, spelled}
+use Rattle.rst_block_state.specs.Texts.{excerpt, joined, lines_in, message_with_lines, span_source, spelled, texted}
 use Rattle.rst_block_state.specs.Within.{Within}
 use Rattle.rst_tree_laws.specs.Texts.{AttrsHave, BlockKept, Kept, ValueHas, becomes_text}
 use Rattle.rst_tree_index.specs.Parsed.{levels_by}
@@ -61,9 +62,9 @@ use Rattle.rst_block_laws.proofs.MessageFits.{read_notes_fit}
 use Rattle.rst_block_laws.proofs.Fits.{AllFit, Fits, counting_has, definition_fits, filled_fits, fit_forest, fit_more, fit_nodes, message_fits, open_fits}
 use Rattle.rst_block_laws.proofs.Gives.{Gives, after, give, gives}
 use Rattle.rst_tree_laws.proofs.Have.{with_attr_has, without_key_has}
-use Rattle.rst_block_laws.proofs.LineFits.{texted_fit, line_block_fits, verse_kept}
+use Rattle.rst_block_laws.proofs.LineFits.{texted_fit, line_block_fits, verse_kept, PairFits}
 use Rattle.rst_block_laws.proofs.LineTexts.{excerpt_has, first_kept, joined_kept, lines_kept, source_has, spelled_has}
-use Rattle.rst_tree_laws.proofs.Lists.{all_append, all_drop, all_take}
+use Rattle.rst_tree_laws.proofs.Lists.{all_append, all_drop, all_take, all_map}
 use Rattle.rst_tree_laws.proofs.Properties.{Suited, fixed_has, normalized_kept, onto_kept, unescaped_kept}
 use Rattle.rst_block_laws.proofs.Weights.{HoldsAny, Open, light_at, open_counts}
 use borrow.Author.Tests.{le-leb}
@@ -165,19 +166,23 @@ module _ (P : ℕ → Bool) (T : List ℕ → Type 0) (s : Suited P T) (c : With
 
   subtitle_fits : (parts : Parts) (t : Option (List ℕ)) (line : ℕ) → IfSome t (Kept P) → Gives (λ made. AllFit T (k + 1) made.0 × AllFit T 3 made.1) (subtitled parts t line)
   subtitle_fits parts None line h = give (tt, tt)
-  subtitle_fits parts (Some t) line h = after (gives (λ n. texted_fit P T s parts (k + 1) 3 (omega arith) (omega arith) SubtitleTag line t line n (λ c. refl) h)) (λ made own. give ((own.0, tt), own.1))
+  subtitle_fits parts (Some t) line h =
+      let read : Gives (PairFits P T s (k + 1) 3) (texted parts SubtitleTag line t line) = gives (λ n. texted_fit P T s parts (k + 1) 3 (omega arith) (omega arith) SubtitleTag line t line n (λ c. refl) h) in
+      after read (λ (made : Node × List Node) own. give {a = (made.0 ∷ [], made.1)} ((own.0, tt), own.1))
 
   -- what a directive begins with that has a title
   start_fits : (line : ℕ) (read : Read) (lines : Block) → BlockKept P lines → ReadHas P T s read → Gives (λ n. HoldsAny n × Fits T (k + 2) n) (titled_start line read lines)
   start_fits line read lines b h =
       let parts : Parts = first_parts lines in
       let at : ℕ = number_or line lines in
-      after (gives (λ n. texted_fit P T s parts (k + 1) 3 (omega arith) (omega arith) TitleTag at (joined lines) at n (λ c. refl) (joined_kept P T s lines b)))
-      (λ made own. after (subtitle_fits parts (subtitle_chosen read.options) line (subtitle_has read.options h.1))
-      (λ more others.
-      let notes = fit_more T 3 (k + 1) (made.1 ++ more.1) (omega arith) (all_append (Fits T 3) made.1 more.1 own.1 others.1) in
-      let inside = (own.0, all_append (Fits T (k + 1)) more.0 (made.1 ++ more.1) others.0 notes) in
-      give (
+      let read_title : Gives (PairFits P T s (k + 1) 3) (texted parts TitleTag at (joined lines) at) = gives (λ n. texted_fit P T s parts (k + 1) 3 (omega arith) (omega arith) TitleTag at (joined lines) at n (λ c. refl) (joined_kept P T s lines b)) in
+      after read_title
+      (λ (made : Node × List Node) own. after (subtitle_fits parts (subtitle_chosen read.options) line (subtitle_has read.options h.1))
+      (λ (more : List Node × List Node) others.
+      let first = all_append (Fits T (k + 1)) more.0 made.1 others.0 (fit_more T 3 (k + 1) made.1 (omega arith) own.1) in
+      let inside : AllFit T (k + 1) (made.0 ∷ more.0 ++ made.1 ++ more.1) = (own.0, all_append (Fits T (k + 1)) (more.0 ++ made.1) more.1 first (fit_more T 3 (k + 1) more.1 (omega arith) others.1)) in
+      let node : Node = filled (titled_element read.kind.element (directive_element read.kind.element read.argument read.options line) made.0) (made.0 ∷ more.0 ++ made.1 ++ more.1) in
+      give {a = node} (
         titled_open read.kind.element read.kind.element _ line made.0 _ h.0,
         titled_fits read.kind.element read.kind.element _ line made.0 _ h.0 (given_has read.argument _ (body_has read [] h tt)) inside,
       )))
@@ -204,6 +209,16 @@ module _ (P : ℕ → Bool) (T : List ℕ → Type 0) (s : Suited P T) (c : With
   content_fit : (B : Block) (content : Content) → BlockKept P B → Gives (AllFit T k) (content_nodes c B content)
   content_fit B content b = after (inside _ (lines_kept P B content.first b)) (λ nodes low. after (inside _ (lines_kept P B content.second b)) (λ more rest. give (all_append _ nodes more low rest)))
 
+  -- a directive's element with its content, or block quotes with their class
+  classed_fits : (class : QuoteClass) (n : Node) → Fits T k n → Fits T (k + 2) (classed class n)
+  classed_fits class (Element BlockQuote a content line) h = (omega (arith, h.0), (with_attr_has T Classes (Listed (quote_class class ∷ [])) a tt h.1.0, h.1.1))
+  classed_fits class (Element _ a content line) h = (omega (arith, h.0), h.1)
+  classed_fits class (Words t) h = (omega (arith, h.0), h.1)
+
+  holding_fit : (content : ContentKind) (t : Tag) (a : List Attr) (line : ℕ) (nodes : List Node) → Open t → AttrsHave T a → AllFit T k nodes → AllFit T (k + 2) (holding content (Element t a bare line) nodes)
+  holding_fit (Quotes class) t a line nodes any own low = all_map (Fits T k) (Fits T (k + 2)) (classed class) (classed_fits class) nodes low
+  holding_fit _ t a line nodes any own low = (open_fits T t a line k (k + 2) nodes any own low (omega arith), tt)
+
   opened_fits : (a : ArgumentMeaning) (B : Block) (line : ℕ) (read : Read) (lines : List ℕ) → BlockKept P B → ReadHas P T s read → T lines → Gives (AllFit T (k + 2)) (opened_by a c B line read lines)
   opened_fits (title part) B line read lines b h l =
       after (start_fits line read (lines_in B part) (lines_kept P B part b) h)
@@ -213,7 +228,7 @@ module _ (P : ℕ → Bool) (T : List ℕ → Type 0) (s : Suited P T) (c : With
       after (content_fit B read.content b) (λ nodes low. give (figure_fit _ _ nodes (λ c. refl) (open_fits T FigureTag _ line 2 (k + 2) (_ ∷ []) (λ c. refl) (chosen_has _ (elim [ Name ↦ λ m h. tt | _ ↦ λ m h. tt ]) read.options [] h.1 tt) (image.0, tt) (omega arith))
       (message_fits T (k + 2) (omega arith) Error line _ (Some lines) (fixed_has P T s _ refl) l) low))
   opened_fits _ B line read lines b h l =
-      after (content_fit B read.content b) (λ nodes low. give_one (open_fits T read.kind.element _ line k (k + 2) nodes h.0 (given_has read.argument _ (body_has read [] h tt)) low (omega arith)))
+      after (content_fit B read.content b) (λ nodes low. give (holding_fit read.kind.content read.kind.element _ line nodes h.0 (given_has read.argument _ (body_has read [] h tt)) low))
 
   -- the line block of a directive
   optioned_fits : (read : Read) (j : ℕ) (n : Node) → ReadHas P T s read → Fits T j n → Fits T j (with_options false read.options n)

@@ -1,22 +1,23 @@
 -- The content of a directive as blocks: the lines before its options and those after them are in its block, and begin with a line that isn't blank.
-use Rattle.std.proofs.Common.{◌≡◌, ℕ, ◌+◌, ◌-◌, ◌≤◌, ◌==◌, ◌&&◌, Bool, true, false, not, cond, List, [], ◌∷◌, length, take, drop, length-drop, Option, None, Some, Result, Ok, Err, arith, sym, ap, ◌∙◌, subst}
+use Rattle.std.proofs.Common.{◌≡◌, ℕ, ◌+◌, ◌-◌, ◌≤◌, ◌==◌, ◌&&◌, Bool, true, false, not, cond, List, [], ◌∷◌, length, take, drop, length-drop, Option, None, Some, Result, Ok, Err, arith, sym, ap, ◌∙◌, subst, suc, zero, map, refl}
 use Rattle.std.specs.Prelude.{nat_lt}
-use Rattle.std.proofs.lemmas.Bool.{cond_both}
-use Rattle.std.proofs.lemmas.List.{drop-drop}
+use Rattle.std.proofs.lemmas.Bool.{cond_both, and_parts}
+use Rattle.std.proofs.lemmas.List.{drop-drop, length-map}
 use Rattle.std.proofs.lemmas.List.Sums.{prefix_len-le-length}
 use Rattle.rst_markup_directives.proofs.DirectiveParts.{run_in-le}
 use Rattle.rst_settings.specs.declared.Parts.{Parts}
-use Rattle.rst_text.specs.Block.{Block, cut, first_parts}
+use Rattle.rst_text.specs.Block.{Line, Block, cut, first_parts, first_text, is_blank, shorten, shorten_all}
+use Rattle.rst_text.specs.Lines.{ends_white}
 use Rattle.rst_text.proofs.CutLaws.{take-cut, drop-cut}
 use Rattle.rst_markup_blocks.proofs.RowLaws.{while_le}
 use Rattle.rst_markup_blocks.specs.declared.forms.Invocation.{Invocation}
 use Rattle.rst_markup_blocks.specs.declared.lines.LineTest.TheVariants.{Blank}
 use Rattle.rst_markup_blocks.specs.declared.part.Part.{Part}
 use Rattle.rst_markup_directives.specs.Argument.{ArgumentMeaning, argument_of}
-use Rattle.rst_markup_directives.specs.Call.{called_at, part_of, content_of}
+use Rattle.rst_markup_directives.specs.Call.{called_at, part_of, content_block, content_of}
 use Rattle.rst_markup_directives.specs.Characters.{Text}
 use Rattle.rst_markup_directives.specs.Directive.{Read, Outcome, found, wrong, run_in, directive_options, read_parts, directive_by_layout, read_block, read_at, directive_outcome_at, fault_of, of_block, judged_directive, named_directive, source_lines_at, is_late, directive_of}
-use Rattle.rst_markup_directives.specs.Kind.{has_blocks, is_text}
+use Rattle.rst_markup_directives.specs.Kind.{has_blocks, is_text, kept_columns}
 use Rattle.rst_markup_directives.specs.Layout.{begins_field, before_field, content_alone, parts_without_argument, layout_by, layout_at, layout_of}
 use Rattle.rst_markup_directives.specs.Lines.{blank_len, after_blank}
 use Rattle.rst_markup_directives.specs.Options.{OptionSetting}
@@ -26,7 +27,7 @@ use Rattle.rst_markup_directives.specs.declared.found.Place.{Place}
 use Rattle.rst_markup_directives.specs.declared.kind.ArgumentKind.{ArgumentKind}
 use Rattle.rst_markup_directives.specs.declared.kind.ArgumentKind.TheVariants.{Absent}
 use Rattle.rst_markup_directives.specs.declared.kind.ContentKind.{ContentKind}
-use Rattle.rst_markup_directives.specs.declared.kind.ContentKind.TheVariants.{Blocks, Caption, Paragraph}
+use Rattle.rst_markup_directives.specs.declared.kind.ContentKind.TheVariants.{Blocks, Caption, Paragraph, Quotes}
 use Rattle.rst_markup_directives.specs.declared.kind.Kind.{Kind}
 use Rattle.rst_block_state.specs.looks.Budget.{sum_of}
 use Rattle.rst_block_state.specs.looks.BudgetLaws.{is_trimmed, IsFronted, HaveAtMostLines}
@@ -36,7 +37,7 @@ use Rattle.rst_block_state.specs.Paragraphs.{is_single_paragraph}
 use Rattle.rst_block_state.specs.Texts.{lines_in}
 use Rattle.rst_block_state.specs.Within.{Within}
 use Rattle.rst_block_state.proofs.MarkFacts.{chosen}
-use Rattle.rst_block_state.proofs.PartFacts.{trimmed_drop, take_le, take_fronted, blanks_fronted}
+use Rattle.rst_block_state.proofs.PartFacts.{trimmed_drop, trimmed_take, trimmed_shorten, take_le, take_fronted, blanks_fronted}
 
 -- ---- places in a block
 
@@ -77,6 +78,7 @@ no_text _ b = absurd (let no : false ≡ true = b in cc)
 parts_laid : (parts : Parts) (content : ContentKind) (argument : ArgumentKind) (run : List Text) (H : Block) → has_blocks content ≡ true → is_trimmed H ≡ true → length run ≤ length H
     → let layout = layout_by parts content argument run (length H) (after_blank H (length run)) in IsLaid layout.first layout.second H
 parts_laid parts Paragraph argument run H b h r = alone_laid H h
+parts_laid parts (Quotes class) argument run H b h r = alone_laid H h
 parts_laid parts content Absent run H b h r =
     subst (λ text. let layout = parts_without_argument parts run (length H) (cond (text && nat_lt 0 (before_field parts run)) (length run) (after_blank H (length run))) in IsLaid layout.first layout.second H)
     (sym (no_text content b)) (without_laid parts run H h r)
@@ -110,6 +112,67 @@ content_in B block first second h count laid =
       fronted = (subst IsFronted (sym one) (take_fronted (first - 0) (drop 0 H) h), (subst IsFronted (sym two) (take_fronted (length H - second) (drop second H) laid.fronted), tt));
     }
 
+-- ---- a part whose lines lose fewer characters
+
+some_left : (t : List ℕ) → is_blank t ≡ false → 1 ≤ length t
+some_left [] h = let no : true ≡ false = h in cc
+some_left (c ∷ cs) h = omega arith
+
+not_blank : (t : List ℕ) → 1 ≤ length t → is_blank t ≡ false
+not_blank [] h = absurd (omega (arith, h))
+not_blank (c ∷ cs) h = refl
+
+less_blank : (f k : ℕ) (t : List ℕ) → is_blank (drop f t) ≡ false → is_blank (drop (f - k) t) ≡ false
+less_blank f k t h = not_blank (drop (f - k) t) (omega (arith, some_left (drop f t) h, length-drop f t, length-drop (f - k) t))
+
+abbrev Filled : Block → Type 0
+Filled X = 1 ≤ length X → is_blank (first_text X) ≡ false
+
+others_filled : (k r s : ℕ) (X : Block) → Filled (drop s (map (shorten r) X)) → Filled (drop s (map (shorten (r - k)) X))
+others_filled k r zero [] h some = absurd (omega (arith, some))
+others_filled k r zero (l ∷ ls) h some = less_blank r k l.text (h (omega arith))
+others_filled k r (suc s) [] h some = absurd (omega (arith, some))
+others_filled k r (suc s) (l ∷ ls) h some = others_filled k r s ls h some
+
+lines_filled : (k f r s : ℕ) (X : Block) → Filled (drop s (shorten_all f r X)) → Filled (drop s (shorten_all (f - k) (r - k) X))
+lines_filled k f r zero [] h some = absurd (omega (arith, some))
+lines_filled k f r zero (l ∷ ls) h some = less_blank f k l.text (h (omega arith))
+lines_filled k f r (suc s) [] h some = absurd (omega (arith, some))
+lines_filled k f r (suc s) (l ∷ ls) h some = others_filled k r s ls h some
+
+same_count : (f r : ℕ) (X : Block) → length (shorten_all f r X) ≡ length X
+same_count f r [] = refl
+same_count f r (l ∷ ls) = ap suc (length-map ls (shorten r))
+
+trimmed_cut : (f r : ℕ) (X : Block) → is_trimmed X ≡ true → is_trimmed (shorten_all f r X) ≡ true
+trimmed_cut f r [] h = refl
+trimmed_cut f r (l ∷ ls) h =
+    let t = and_parts (not (ends_white l.text)) (is_trimmed ls) h in
+    let one = and_parts (not (ends_white (drop f l.text))) true (trimmed_shorten f (l ∷ []) (rw t.0 refl)) in
+    rw (one.0, trimmed_shorten r ls t.1) refl
+
+-- the lines of a block, as its content has them
+kept_count : (content : ContentKind) (B : Block) (block : Part) → length (lines_in B (content_block content block)) ≡ length (lines_in B block)
+kept_count content B block =
+    let X : Block = take (block.to - block.from) (drop block.from B) in
+    same_count (block.first_cut - kept_columns content) (block.rest_cut - kept_columns content) X ∙ sym (same_count block.first_cut block.rest_cut X)
+
+kept_fronted : (content : ContentKind) (B : Block) (block : Part) (s : ℕ) → is_trimmed B ≡ true → IsFronted (drop s (lines_in B block)) → IsFronted (drop s (lines_in B (content_block content block)))
+kept_fronted content B block s t h =
+    let X : Block = take (block.to - block.from) (drop block.from B) in
+    let k : ℕ = kept_columns content in
+    record {
+      trimmed = trimmed_drop s _ (trimmed_cut (block.first_cut - k) (block.rest_cut - k) X (trimmed_take (block.to - block.from) (drop block.from B) (trimmed_drop block.from B t)));
+      first_not_blank = lines_filled k block.first_cut block.rest_cut s X h.first_not_blank;
+    }
+
+kept_laid : (content : ContentKind) (B : Block) (block : Part) (first second : ℕ) → is_trimmed B ≡ true → IsLaid first second (lines_in B block) → IsLaid first second (lines_in B (content_block content block))
+kept_laid content B block first second t laid = record {
+  ordered = laid.ordered;
+  within = omega (arith, laid.within, kept_count content B block);
+  fronted = kept_fronted content B block second t laid.fronted;
+}
+
 -- so are the blocks of a directive whose content is blocks
 abbrev HasBlocksIn : ℕ → Block → Read → Type 0
 HasBlocksIn n B read = has_blocks read.kind.content ≡ true → HaveAtMostLines n (content_blocks B read.content)
@@ -127,15 +190,19 @@ parts_in n B kind content given (Err w) h = tt
 parts_in n B kind content (Err w) (Ok choices) h = tt
 parts_in n B kind content (Ok value) (Ok choices) h = h
 
-block_in : (B : Block) (kind : Kind) (late : Bool) (block : Part) → IsFronted (lines_in B block) → length (lines_in B block) ≡ block.to - block.from
+block_in : (B : Block) (kind : Kind) (late : Bool) (block : Part) → is_trimmed B ≡ true → IsFronted (lines_in B block) → length (lines_in B block) ≡ block.to - block.from
     → MayBeIn (length (lines_in B block)) B (read_block kind late block (lines_in B block))
 unfolding read_block directive_by_layout
-block_in B kind late block h count =
+block_in B kind late block t h count =
     let H : Block = lines_in B block in
     let run : List Text = run_in kind late H in
     let layout = layout_of kind run H in
-    parts_in (length H) B kind (content_of block layout (length H)) (argument_of kind.argument (take layout.argument run) (part_of block 0 layout.argument)) (directive_options (first_parts H) kind.options (drop layout.options run))
-    (λ b. content_in B block layout.first layout.second h count (layout_laid kind run H b h.trimmed (run_in-le kind late H)))
+    let kept : Part = content_block kind.content block in
+    let same : length (lines_in B kept) ≡ length H = kept_count kind.content B block in
+    parts_in (length H) B kind (content_of kept layout (length H)) (argument_of kind.argument (take layout.argument run) (part_of block 0 layout.argument)) (directive_options (first_parts H) kind.options (drop layout.options run))
+    (λ b. subst (λ n. HaveAtMostLines n (lines_in B (part_of kept 0 layout.first) ∷ lines_in B (part_of kept layout.second n) ∷ [])) same
+    (content_in B kept layout.first layout.second (kept_fronted kind.content B block 0 t h) (same ∙ count)
+    (kept_laid kind.content B block layout.first layout.second t (layout_laid kind run H b h.trimmed (run_in-le kind late H)))))
 
 judged_in : (n : ℕ) (B : Block) (place : Place) (paragraph : Bool) (source : Part) (read : Result Read Wrong) → MayBeIn n B read → IsIn n B (directive_outcome_at source (and_then (judged_directive place paragraph) (of_block read)))
 judged_in n B place paragraph source (Err w) h = tt
@@ -145,17 +212,17 @@ judged_in n B place paragraph source (Ok read) h = by (fault_of place paragraph 
     by (Some fault) = tt
     by None = h
 
-outcome_in : (c : Within) (B : Block) (i : ℕ) (call : Invocation) (place : Place) → IsFronted (lines_in B call.block) → length (lines_in B call.block) ≡ call.block.to - call.block.from
+outcome_in : (c : Within) (B : Block) (i : ℕ) (call : Invocation) (place : Place) → is_trimmed B ≡ true → IsFronted (lines_in B call.block) → length (lines_in B call.block) ≡ call.block.to - call.block.from
     → IsIn (length (lines_in B call.block)) B (called c B i call place)
 unfolding directive_of
-outcome_in c B i call place h count = by (named_directive (called_at c.code B i call) place)
+outcome_in c B i call place t h count = by (named_directive (called_at c.code B i call) place)
   where
     paragraph : Bool
     paragraph = is_single_paragraph (lines_in B call.block)
 
     by : (r : Result Kind Fault) → IsIn (length (lines_in B call.block)) B (directive_outcome_at (source_lines_at i call.block) (and_then (judged_directive place paragraph) (and_then (read_at B i call.block) r)))
     by (Err w) = tt
-    by (Ok kind) = judged_in (length (lines_in B call.block)) B place paragraph (source_lines_at i call.block) (read_block kind (is_late i call.block) call.block (lines_in B call.block)) (block_in B kind (is_late i call.block) call.block h count)
+    by (Ok kind) = judged_in (length (lines_in B call.block)) B place paragraph (source_lines_at i call.block) (read_block kind (is_late i call.block) call.block (lines_in B call.block)) (block_in B kind (is_late i call.block) call.block t h count)
 
 -- ---- the blocks
 
@@ -171,6 +238,6 @@ directive_by n B (found read) h = cond_both (has_blocks read.kind.content) (cont
 directive_by n B (wrong fault source) h = none_within n
 
 -- those of a directive, in a block or in a substitution definition
-pub directive_within : (c : Within) (B : Block) (i : ℕ) (call : Invocation) (place : Place) → IsFronted (lines_in B call.block) → length (lines_in B call.block) ≡ call.block.to - call.block.from
+pub directive_within : (c : Within) (B : Block) (i : ℕ) (call : Invocation) (place : Place) → is_trimmed B ≡ true → IsFronted (lines_in B call.block) → length (lines_in B call.block) ≡ call.block.to - call.block.from
     → HaveAtMostLines (length (lines_in B call.block)) (directive_blocks (called c B i call place) B)
-directive_within c B i call place h count = directive_by (length (lines_in B call.block)) B (called c B i call place) (outcome_in c B i call place h count)
+directive_within c B i call place t h count = directive_by (length (lines_in B call.block)) B (called c B i call place) (outcome_in c B i call place t h count)

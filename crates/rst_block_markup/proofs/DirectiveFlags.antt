@@ -6,7 +6,7 @@ use Rattle.std.specs.Result.{result_map_both}
 use Rattle.rst_text.specs.Block.{Block, cut, first_parts}
 use Rattle.rst_markup_blocks.specs.declared.part.Part.{Part}
 use Rattle.rst_markup_directives.specs.Argument.{ArgumentMeaning, argument_of}
-use Rattle.rst_markup_directives.specs.Call.{part_of, content_of, is_empty}
+use Rattle.rst_markup_directives.specs.Call.{part_of, content_block, content_of, is_empty}
 use Rattle.rst_markup_directives.specs.Directive.{Read, read_parts, directive_by_layout, read_block, run_in, directive_options, source_lines_at, is_late, of_block, directive_outcome_at, read_at, classes_fault, judged_directive, named_directive, directive_of}
 use Rattle.rst_markup_directives.specs.Judgement.{is_definition_place, is_substitutable, permitted, place_fault, fault_by, has_title, option_fault, content_fault}
 use Rattle.rst_markup_directives.specs.Kind.{is_paragraph}
@@ -49,7 +49,7 @@ unfolding read_block directive_by_layout
 block_kind kind late block H r h =
     let run = run_in kind late H in
     let layout = layout_of kind run H in
-    parts_kind kind (content_of block layout (length H)) (argument_of kind.argument (take layout.argument run) (part_of block 0 layout.argument)) (directive_options (first_parts H) kind.options (drop layout.options run)) r h
+    parts_kind kind (content_of (content_block kind.content block) layout (length H)) (argument_of kind.argument (take layout.argument run) (part_of block 0 layout.argument)) (directive_options (first_parts H) kind.options (drop layout.options run)) r h
 
 unblocked : (read : Result Read Wrong) (r : Read) → of_block read ≡ Ok r → read ≡ Ok r
 unblocked (Ok x) r h = let e : x ≡ r = cc in ap (λ (y : Read). Ok y) e

@@ -11,15 +11,18 @@ use Rattle.rst_markup_directives.specs.Kind.{has_blocks}
 use Rattle.rst_markup_directives.specs.Options.{choices_in}
 use Rattle.rst_markup_directives.specs.declared.argument.Argument.{Argument}
 use Rattle.rst_markup_directives.specs.declared.argument.Argument.TheVariants.{Title, Uri}
+use Rattle.rst_markup_directives.specs.declared.kind.ContentKind.{ContentKind}
+use Rattle.rst_markup_directives.specs.declared.kind.ContentKind.TheVariants.{Quotes}
+use Rattle.rst_markup_directives.specs.declared.kind.QuoteClass.{QuoteClass}
 use Rattle.rst_markup_directives.specs.declared.options.Setting.{Setting}
 use Rattle.rst_block_nodes.specs.Options.{directive_element, figure_element, image_element}
 use Rattle.rst_block_nodes.specs.Sections.{filled}
-use Rattle.rst_block_state.specs.Directives.{closed_nodes, content_nodes, titled_nodes, titled_start, plain_nodes, figure_of, opened_by}
+use Rattle.rst_block_state.specs.Directives.{closed_nodes, content_nodes, holding, titled_nodes, titled_start, plain_nodes, figure_of, opened_by}
 use Rattle.rst_block_state.specs.Figures.{caption_error, figure_nodes}
 use Rattle.rst_block_state.specs.Inside.{content_blocks}
 use Rattle.rst_block_markup.specs.MarkupSteps.{IsDirectiveRead, IsOpenedRead, made_of_content, marked_text, read_of_directive, reads_with}
 use Rattle.rst_block_markup.specs.declared.directive.Found.{Found}
-use Rattle.rst_block_state.specs.machine.Meanings.{within_at, reads_from, comes, Keeps, deepest}
+use Rattle.rst_block_state.specs.machine.Meanings.{within_at, reads_from, comes, Keeps, deepest, resumed}
 use Rattle.rst_block_state.specs.Numbered.{then_read, ◌>>=◌, just}
 use Rattle.rst_block_state.specs.machine.OpenBlocks.{HasMoreAt, IsMoved}
 use Rattle.rst_block_state.specs.Texts.{span_source}
@@ -27,6 +30,7 @@ use Rattle.rst_block_state.specs.Within.{Within}
 use Rattle.rst_block_nodes.specs.declared.fault.BlockFault.{BlockFault}
 use Rattle.rst_block_nodes.specs.declared.fault.BlockFault.TheVariants.{TooDeep, NoMemory}
 use Rattle.rst_block_state.specs.declared.open_block.OpenBlock.{OpenBlock}
+use Rattle.rst_block_state.specs.declared.waits.Waits.{Waits}
 use Rattle.rst_block_state.specs.declared.waits.Waits.TheVariants.{Element}
 use Rattle.rst_block_state.specs.declared.step.Step.{Step}
 use Rattle.rst_block_state.specs.declared.step.Step.TheVariants.{Next, Open}
@@ -103,14 +107,18 @@ titled_comes old new B read lines end n m line at node s h l e a moved =
     ∙ ap (λ r. then_read (λ ns. reads_from old B ns end) (then_read (λ start. content_nodes c B read.content >>= λ ns. just (filled start ns ∷ [])) r)) (sym h)
     ∙ ap (λ k. reads_with old B (titled_nodes c B k read lines) end n) l
 
-pub plain_comes : (old new : OpenBlock) (B : Block) (read : Read) (end n line at : ℕ) (node : Node) (slice : List Setting) (s : Step) → node ≡ directive_element read.kind.element read.argument (choices_in slice) line
-    → choices_in slice ≡ read.options → line ≡ at → s ≡ Open (Element node) read.content.first (Some read.content.second) → new.at ≡ end → IsMoved old new
+-- a content without a class is held by the directive's element
+pub held : (content : ContentKind) (element : Node) (ns : List Node) → ((class : QuoteClass) → content ≡ Quotes class → ⊥) → holding content element ns ≡ filled element ns ∷ []
+held (Quotes class) element ns none = absurd (none class refl)
+held _ element ns none = refl
+
+pub plain_comes : (old new : OpenBlock) (B : Block) (read : Read) (end n at : ℕ) (w : Waits) (s : Step)
+    → ((ns : List Node) → resumed new B w ns ≡ reads_from new B (holding read.kind.content (directive_element read.kind.element read.argument read.options at) ns) new.at)
+    → s ≡ Open w read.content.first (Some read.content.second) → new.at ≡ end → IsMoved old new
     → comes new B s n ≡ reads_with old B (plain_nodes (within_at old.depth) B at read) end n
-plain_comes old new B read end n line at node slice s h o l e a moved =
-    let c = within_at old.depth in
+plain_comes old new B read end n at w s waits e a moved =
     ap (λ s. comes new B s n) e
-    ∙ content_comes B (Element node) read.content (λ ns. filled node ns ∷ []) n moved a (λ ns. refl)
-    ∙ ap (λ x. reads_with old B (made_of_content c B read.content (λ ns. filled x ns ∷ [])) end n) (h ∙ ap (λ os. directive_element read.kind.element read.argument os line) o ∙ ap (directive_element read.kind.element read.argument read.options) l)
+    ∙ content_comes B w read.content (holding read.kind.content (directive_element read.kind.element read.argument read.options at)) n moved a waits
 
 -- ---- elements
 

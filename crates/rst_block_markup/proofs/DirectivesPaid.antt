@@ -6,7 +6,7 @@ use Rattle.rst_text.specs.Characters.{is_among}
 use Rattle.rst_markup_blocks.specs.declared.forms.Invocation.{Invocation}
 use Rattle.rst_markup_blocks.specs.declared.part.Part.{Part}
 use Rattle.rst_markup_directives.specs.Argument.{ArgumentMeaning, title, language, title_argument, uri_of, word_of, language_of, argument_of}
-use Rattle.rst_markup_directives.specs.Call.{called_at, part_of, content_of}
+use Rattle.rst_markup_directives.specs.Call.{called_at, part_of, content_block, content_of}
 use Rattle.rst_markup_directives.specs.Characters.{Text}
 use Rattle.rst_markup_directives.specs.Directive.{Read, Outcome, found, wrong, run_in, directive_options, directive_outcome, read_parts, directive_by_layout, read_block, read_at, directive_outcome_at, fault_of, of_block, judged_directive, named_directive, source_lines_at, is_late, directive_of}
 use Rattle.rst_markup_directives.specs.Layout.{layout_of}
@@ -99,7 +99,7 @@ block_short n kind late block H few =
     let run : List Text = run_in kind late H in
     let layout = layout_of kind run H in
     let within = block_within kind late H in
-    parts_short n kind (content_of block layout (length H)) (argument_of kind.argument (take layout.argument run) (part_of block 0 layout.argument)) (directive_options (first_parts H) kind.options (drop layout.options run))
+    parts_short n kind (content_of (content_block kind.content block) layout (length H)) (argument_of kind.argument (take layout.argument run) (part_of block 0 layout.argument)) (directive_options (first_parts H) kind.options (drop layout.options run))
     (argument_short n kind.argument (take layout.argument run) block layout.argument (omega (arith, few, within.argument))) (omega (arith, few, within.first), omega (arith, few))
 
 judged_short : (n : ℕ) (place : Place) (paragraph : Bool) (source : Part) (read : Result Read Wrong) → MayBeReadShort n read → AreOutcomeShort n (directive_outcome_at source (and_then (judged_directive place paragraph) (of_block read)))

@@ -252,11 +252,14 @@ fn titled_start(lines: &View<'_>, line: usize, found: &Found, pass: &mut Pass) -
     Ok(filled(node, nodes)?)
 }
 
-/// A directive that is its content.
+/// A directive without a title: its element, or block quotes.
 fn plain_block(alloc: Global, view: &View<'_>, level: &mut OpenBlock, found: &Found) -> Result<Step>
     requires { IsRight (block_of view.now) level.old.at found.now }
     ensures { (pass : Pass) → IsOpenedRead 0 (block_of view.now) level.old pass found.now given.nothing level.new pass result }
 {
+    if let ContentKind::Quotes(class) = found.kind.content {
+        return Ok(opened(level, Waits::Quotes(class), found));
+    }
     let line = number_at(view, level.at);
     let element = found.kind.element;
     let options = found.options.as_slice();

@@ -5,9 +5,11 @@ mod closed;
 mod directive;
 mod explicit;
 mod figure;
+mod quotes;
 mod single;
 mod substitution;
 
 pub use explicit::explicit_markup;
 pub use figure::finished_figure;
+pub use quotes::finished_quotes;
 pub use substitution::finished_replacement;

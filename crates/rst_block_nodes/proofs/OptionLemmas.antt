@@ -5,7 +5,7 @@ use Rattle.rst_markup_directives.specs.Options.{choices_in}
 use Rattle.rst_markup_directives.specs.Target.{Destination}
 use Rattle.rst_markup_directives.specs.Value.{meaning_of}
 use Rattle.rst_markup_directives.specs.declared.options.Setting.{Setting}
-use Rattle.rst_block_nodes.specs.Options.{link_chosen, link_meant}
+use Rattle.rst_block_nodes.specs.Options.{link_chosen, link_meant, subtitle_chosen, subtitle_meant}
 
 -- the first option that refers to something decides
 pub link_found : (settings : List Setting) (i : ℕ) (s : Setting) (link : Destination × List ℕ) → i < length settings → s ≡ get_or settings i s
@@ -13,4 +13,12 @@ pub link_found : (settings : List Setting) (i : ℕ) (s : Setting) (link : Desti
 link_found settings i s link within is meant so_far =
     ap (λ o. option_or o (link_chosen (choices_in (drop (suc i) settings)))) (sym meant)
     ∙ ap (λ (ss : List Setting). link_chosen (choices_in ss)) (sym (drop-cons settings i s within ∙ ap (λ (x : Setting). x ∷ drop (suc i) settings) (sym is)))
+    ∙ so_far
+
+-- the same of a subtitle
+pub subtitle_found : (settings : List Setting) (i : ℕ) (s : Setting) (text : List ℕ) → i < length settings → s ≡ get_or settings i s
+    → subtitle_meant s.option (meaning_of s.value) ≡ Some text → subtitle_chosen (choices_in (drop i settings)) ≡ subtitle_chosen (choices_in settings) → Some text ≡ subtitle_chosen (choices_in settings)
+subtitle_found settings i s text within is meant so_far =
+    ap (λ o. option_or o (subtitle_chosen (choices_in (drop (suc i) settings)))) (sym meant)
+    ∙ ap (λ (ss : List Setting). subtitle_chosen (choices_in ss)) (sym (drop-cons settings i s within ∙ ap (λ (x : Setting). x ∷ drop (suc i) settings) (sym is)))
     ∙ so_far

@@ -1,28 +1,32 @@
 -- Directives, and substitution definitions, which hold directives (Markup Specification, 'Directives', 'Substitution Definitions'; Directives,
--- 'Admonitions', 'Images', 'Topic', 'Sidebar', 'Code', 'Rubric', 'Parsed Literal Block', 'Line Block', 'Math', 'Raw Data Pass-Through', 'Compound
--- Paragraph', 'Container', 'Replacement Text').
-use Rattle.std.specs.Prelude.{ℕ, Bool, true, false, List, [], ◌∷◌, ◌++◌, drop, codes, Option, Some, None, encode_utf8_all, if◌then◌else◌}
+-- 'Admonitions', 'Images', 'Topic', 'Sidebar', 'Epigraph', 'Highlights', 'Pull-Quote', 'Code', 'Rubric', 'Parsed Literal Block', 'Line Block', 'Math',
+-- 'Raw Data Pass-Through', 'Compound Paragraph', 'Container', 'Replacement Text').
+use Rattle.std.specs.Prelude.{ℕ, Bool, true, false, List, [], ◌∷◌, ◌++◌, map, drop, codes, Option, Some, None, encode_utf8_all, if◌then◌else◌}
 use Rattle.rst_settings.specs.declared.Parts.{Parts}
 use Rattle.rst_text.specs.Block.{Block, first_text, first_number, first_parts}
+use Rattle.rst_tree.specs.Attributes.{with_attr}
 use Rattle.rst_tree.specs.Forest.{Forest}
 use Rattle.rst_tree.specs.Nodes.{nodes_of}
+use Rattle.rst_tree.specs.declared.attrs.Value.TheVariants.{List as Listed}
+use Rattle.rst_tree.specs.declared.key.Key.TheVariants.{Classes}
 use Rattle.rst_tree.specs.declared.node.Node.{Node}
 use Rattle.rst_tree.specs.declared.node.Node.TheVariants.{Element, Text}
 use Rattle.rst_tree.specs.declared.note.Level.TheVariants.{Error, Warning}
 use Rattle.rst_tree.specs.declared.tag.Tag.{Tag}
-use Rattle.rst_tree.specs.declared.tag.Tag.TheVariants.{Admonition, Paragraph, Title as TitleTag}
+use Rattle.rst_tree.specs.declared.tag.Tag.TheVariants.{Admonition, BlockQuote, Paragraph, Title as TitleTag}
 use Rattle.rst_markup_blocks.specs.Partition.{Span}
 use Rattle.rst_markup_blocks.specs.declared.forms.Invocation.{Invocation}
 use Rattle.rst_markup_directives.specs.Argument.{ArgumentMeaning, title, uri}
 use Rattle.rst_markup_directives.specs.Directive.{Read, Outcome, found, wrong, directive_at}
-use Rattle.rst_markup_directives.specs.Kind.{has_blocks}
+use Rattle.rst_markup_directives.specs.Kind.{has_blocks, quote_class}
 use Rattle.rst_markup_directives.specs.Message.{fault_level, fault_text}
 use Rattle.rst_markup_directives.specs.Wrong.{Fault, not_in_substitution}
 use Rattle.rst_markup_directives.specs.declared.found.Content.{Content}
 use Rattle.rst_markup_directives.specs.declared.found.Place.{Place}
 use Rattle.rst_markup_directives.specs.declared.found.Place.TheVariants.{Top, Body, Substitution}
 use Rattle.rst_markup_directives.specs.declared.kind.ContentKind.{ContentKind}
-use Rattle.rst_markup_directives.specs.declared.kind.ContentKind.TheVariants.{Marked, Verse, Formulas}
+use Rattle.rst_markup_directives.specs.declared.kind.ContentKind.TheVariants.{Marked, Verse, Formulas, Quotes}
+use Rattle.rst_markup_directives.specs.declared.kind.QuoteClass.{QuoteClass}
 use Rattle.rst_block_nodes.specs.Admonitions.{with_title_class}
 use Rattle.rst_block_nodes.specs.Elements.{substitution_definition_node}
 use Rattle.rst_block_nodes.specs.Formulas.{formulas}
@@ -76,11 +80,21 @@ titled_nodes c B line read lines = do
   nodes ← content_nodes c B read.content
   just (filled start nodes ∷ [])
 
+-- a block quote with the class of its directive; another node stays as it is
+abbrev pub classed : QuoteClass → Node → Node
+classed class (Element BlockQuote a content line) = Element BlockQuote (with_attr Classes (Listed (quote_class class ∷ [])) a) content line
+classed class node = node
+
+-- the element of a directive with the nodes of its content; or these nodes alone, the block quotes among them with their class
+abbrev pub holding : ContentKind → Node → List Node → List Node
+holding (Quotes class) element nodes = map (classed class) nodes
+holding _ element nodes = filled element nodes ∷ []
+
 -- a directive without a title, and its content
 abbrev pub plain_nodes : Within → Block → ℕ → Read → Numbered (List Node)
 plain_nodes c B line read = do
   nodes ← content_nodes c B read.content
-  just (filled (directive_element read.kind.element read.argument read.options line) nodes ∷ [])
+  just (holding read.kind.content (directive_element read.kind.element read.argument read.options line) nodes)
 
 -- a figure: its image, and its content as caption and legend; an ERROR on it shows these lines
 abbrev pub figure_of : Within → Block → ℕ → Read → List ℕ → List ℕ → Numbered (List Node)

@@ -2,6 +2,7 @@
 
 use rst_block_nodes::Texted;
 use rst_markup_blocks::Part;
+use rst_markup_directives::QuoteClass;
 use rst_tree::{Node, Tag};
 
 /// What a block waits for: the nodes of a block inside, and what is made of them.
@@ -28,6 +29,8 @@ pub enum Waits {
     },
     /// They go into an element, after what is there already.
     Element(Node),
+    /// They are block quotes, which get this class, and messages.
+    Quotes(QuoteClass),
     /// They are the caption and the legend of a figure, which has its image. Its lines are those from place `start` up to
     /// place `end`.
     Figure {

@@ -15,10 +15,10 @@ use Rattle.rst_markup_blocks.specs.declared.part.Part.{Part}
 use Rattle.rst_markup_blocks.proofs.RowLaws.{while_le}
 use Rattle.rst_markup_blocks.specs.declared.lines.LineTest.TheVariants.{Blank}
 use Rattle.rst_markup_directives.specs.Argument.{ArgumentMeaning, title, word_of, argument_of}
-use Rattle.rst_markup_directives.specs.Call.{part_of, content_of, IsContentIn, IsDirectiveIn}
+use Rattle.rst_markup_directives.specs.Call.{part_of, content_block, content_of, IsContentIn, IsDirectiveIn}
 use Rattle.rst_markup_directives.specs.Characters.{Text}
 use Rattle.rst_markup_directives.specs.Directive.{Read, Outcome, found, wrong, run_in, directive_options, read_parts, directive_by_layout, read_block, directive_outcome_at, fault_of, of_block, judged_directive, directive_outcome}
-use Rattle.rst_markup_directives.specs.Kind.{is_text}
+use Rattle.rst_markup_directives.specs.Kind.{is_text, kept_columns}
 use Rattle.rst_markup_directives.specs.Layout.{begins_field, before_field, parts_without_argument, layout_by, layout_at, layout_of}
 use Rattle.rst_markup_directives.specs.Lines.{first_run, blank_len, after_blank, joined_nonempty}
 use Rattle.rst_markup_directives.specs.Options.{OptionSetting}
@@ -30,10 +30,11 @@ use Rattle.rst_markup_directives.specs.declared.found.Directive.TheVariants.{Fou
 use Rattle.rst_markup_directives.specs.declared.found.Place.{Place}
 use Rattle.rst_markup_directives.specs.declared.layout.Layout.{Layout}
 use Rattle.rst_markup_directives.specs.declared.kind.ContentKind.{ContentKind}
-use Rattle.rst_markup_directives.specs.declared.kind.ContentKind.TheVariants.{Paragraph}
+use Rattle.rst_markup_directives.specs.declared.kind.ContentKind.TheVariants.{Paragraph, Quotes}
 use Rattle.rst_markup_directives.specs.declared.kind.Kind.{Kind}
 use Rattle.rst_markup_directives.specs.declared.kind.ArgumentKind.{ArgumentKind}
 use Rattle.rst_markup_directives.specs.declared.kind.ArgumentKind.TheVariants.{Absent as NoArgument, Title as TitleArgument, OptionalTitle, Uri as UriArgument, Language as LanguageArgument, Formats as FormatsArgument, Classes as ClassesArgument}
+use Rattle.rst_markup_directives.proofs.Indentations.{indented_less}
 use Rattle.rst_markup_directives.proofs.Parts.{length_cut}
 
 -- ---- lines of a block
@@ -50,14 +51,22 @@ part_block B block from to b ordered within =
       indented = rw place (rw lines (is_indented-part block.rest_cut from (to - 1) (block.to - (block.from + 1)) Y (omega arith) b.indented));
     }
 
+-- the block whose content keeps some columns
+kept_block : (content : ContentKind) (B : Block) (block : Part) → IsBlock B block → IsBlock B (content_block content block)
+kept_block content B block b = record {
+  ordered = b.ordered;
+  within = b.within;
+  indented = indented_less block.rest_cut (kept_columns content) (take (block.to - (block.from + 1)) (drop (block.from + 1) B)) b.indented;
+}
+
 -- where the parts of a block of `all` lines end
 pub record IsWithin (layout : Layout) (all : ℕ) : Type 0 where
   pub argument : layout.argument ≤ all
   pub first : layout.first ≤ all
   pub second : layout.second ≤ all
 
-content_block : (B : Block) (block : Part) (layout : Layout) (all : ℕ) → IsBlock B block → IsWithin layout all → block.from + all ≤ block.to → IsContentIn B (content_of block layout all)
-content_block B block layout all b inside within = (
+content_in : (B : Block) (block : Part) (layout : Layout) (all : ℕ) → IsBlock B block → IsWithin layout all → block.from + all ≤ block.to → IsContentIn B (content_of block layout all)
+content_in B block layout all b inside within = (
   part_block B block 0 layout.first b (omega arith) (omega (arith, inside.first, within)),
   part_block B block layout.second all b inside.second within,
 )
@@ -87,6 +96,7 @@ without_within parts run all rest h k =
 
 parts_within : (parts : Parts) (content : ContentKind) (argument : ArgumentKind) (run : List Text) (all rest : ℕ) → length run ≤ all → rest ≤ all → IsWithin (layout_by parts content argument run all rest) all
 parts_within parts Paragraph argument run all rest h k = record { argument = omega arith; first = omega arith; second = omega arith }
+parts_within parts (Quotes class) argument run all rest h k = record { argument = omega arith; first = omega arith; second = omega arith }
 parts_within parts content NoArgument run all rest h k =
     let whole = is_text content && nat_lt 0 (before_field parts run) in
     without_within parts run all (cond whole (length run) rest) h (cond_both whole (length run) rest (λ n. n ≤ all) (λ _. h) (λ _. k))
@@ -145,8 +155,8 @@ read_in_block B kind late block H b count =
     let within = block_within kind late H in
     let layout : Layout = layout_of kind run H in
     let inside : block.from + length H ≤ block.to = omega (arith, b.ordered, count) in
-    parts_in_block B kind (content_of block layout (length H)) (argument_of kind.argument (take layout.argument run) (part_of block 0 layout.argument)) (directive_options (first_parts H) kind.options (drop layout.options run))
-    (content_block B block layout (length H) b within inside)
+    parts_in_block B kind (content_of (content_block kind.content block) layout (length H)) (argument_of kind.argument (take layout.argument run) (part_of block 0 layout.argument)) (directive_options (first_parts H) kind.options (drop layout.options run))
+    (content_in B (content_block kind.content block) layout (length H) (kept_block kind.content B block b) within inside)
     (argument_in B kind.argument (take layout.argument run) (part_of block 0 layout.argument) (part_block B block 0 layout.argument b (omega arith) (omega (arith, within.argument, inside))))
 
 -- ---- what a directive is

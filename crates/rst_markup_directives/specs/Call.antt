@@ -1,14 +1,15 @@
 -- Directives as they are called (Markup Specification, 'Directives').
-use Rattle.std.specs.Prelude.{ℕ, ◌+◌, Bool, ◌&&◌, ◌==◌, drop, slice_range, Option, if◌then◌else◌}
+use Rattle.std.specs.Prelude.{ℕ, ◌+◌, ◌-◌, Bool, ◌&&◌, ◌==◌, drop, slice_range, Option, if◌then◌else◌}
 use Rattle.rst_text.specs.Block.{Block, first_text, first_parts}
 use Rattle.rst_markup_directives.specs.Characters.{Text}
-use Rattle.rst_markup_directives.specs.Kind.{directive_named}
+use Rattle.rst_markup_directives.specs.Kind.{directive_named, kept_columns}
 use Rattle.rst_markup_directives.specs.declared.argument.Argument.{Argument}
 use Rattle.rst_markup_directives.specs.declared.argument.Argument.TheVariants.{Title}
 use Rattle.rst_markup_directives.specs.declared.found.Content.{Content}
 use Rattle.rst_markup_directives.specs.declared.found.Directive.{Directive}
 use Rattle.rst_markup_directives.specs.declared.found.Directive.TheVariants.{Found, Wrong}
 use Rattle.rst_markup_directives.specs.declared.layout.Layout.{Layout}
+use Rattle.rst_markup_directives.specs.declared.kind.ContentKind.{ContentKind}
 use Rattle.rst_markup_directives.specs.declared.kind.Kind.{Kind}
 use Rattle.rst_markup_blocks.specs.Parts.{IsBlock}
 use Rattle.rst_markup_blocks.specs.declared.forms.Invocation.{Invocation}
@@ -25,6 +26,10 @@ called_at code B at call = directive_named (first_parts (drop at B)) (name_text 
 -- lines of a block as a part of what the block is a part of; the block's first line may lose another number of characters than the others
 abbrev pub part_of : Part → ℕ → ℕ → Part
 part_of block from to = record { from = block.from + from; to = block.from + to; first_cut = if from == 0 then block.first_cut else block.rest_cut; rest_cut = block.rest_cut }
+
+-- the block of a directive as its content has it, which may keep some columns of the indentation
+abbrev pub content_block : ContentKind → Part → Part
+content_block content block = record block { first_cut = block.first_cut - kept_columns content; rest_cut = block.rest_cut - kept_columns content }
 
 -- the two parts of a directive's content: before its options, and after them
 abbrev pub content_of : Part → Layout → ℕ → Content

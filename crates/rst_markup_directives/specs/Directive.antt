@@ -6,7 +6,7 @@ use Rattle.std.specs.Result.{result_map_both}
 use Rattle.rst_settings.specs.declared.Parts.{Parts}
 use Rattle.rst_text.specs.Block.{Block, cut, first_parts}
 use Rattle.rst_markup_directives.specs.Argument.{ArgumentMeaning, classes, given_in, argument_of}
-use Rattle.rst_markup_directives.specs.Call.{called_at, part_of, content_of, is_empty}
+use Rattle.rst_markup_directives.specs.Call.{called_at, part_of, content_block, content_of, is_empty}
 use Rattle.rst_markup_directives.specs.Characters.{Text}
 use Rattle.rst_markup_directives.specs.Judgement.{permitted, content_fault, has_title, option_fault}
 use Rattle.rst_markup_directives.specs.Kind.{is_text}
@@ -51,7 +51,7 @@ read_parts kind content given choices = and_then (λ options. and_then (λ argum
 -- a directive by the run of lines that its block of `all` lines begins with, and by where the parts of the block are
 unfoldable pub directive_by_layout : Parts → Kind → Part → ℕ → List Text → Layout → Result Read Wrong
 directive_by_layout parts kind block all run layout =
-    read_parts kind (content_of block layout all) (argument_of kind.argument (take layout.argument run) (part_of block 0 layout.argument)) (directive_options parts kind.options (drop layout.options run))
+    read_parts kind (content_of (content_block kind.content block) layout all) (argument_of kind.argument (take layout.argument run) (part_of block 0 layout.argument)) (directive_options parts kind.options (drop layout.options run))
 
 -- what the block of a directive holds, or the first that is wrong: its options, then its argument
 unfoldable pub read_block : Kind → Bool → Part → Block → Result Read Wrong

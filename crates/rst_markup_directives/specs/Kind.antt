@@ -16,11 +16,13 @@ use Rattle.rst_markup_directives.specs.declared.kind.Allowed.TheVariants.{Body, 
 use Rattle.rst_markup_directives.specs.declared.kind.ArgumentKind.{ArgumentKind}
 use Rattle.rst_markup_directives.specs.declared.kind.ArgumentKind.TheVariants.{Absent, Title, OptionalTitle, Uri, Language, Formats, Classes}
 use Rattle.rst_markup_directives.specs.declared.kind.ContentKind.{ContentKind}
-use Rattle.rst_markup_directives.specs.declared.kind.ContentKind.TheVariants.{Empty as NoContent, Lines, Marked, Verse, Formulas, Blocks, Paragraph, Caption}
+use Rattle.rst_markup_directives.specs.declared.kind.ContentKind.TheVariants.{Empty as NoContent, Lines, Marked, Verse, Formulas, Blocks, Paragraph, Caption, Quotes}
 use Rattle.rst_markup_directives.specs.declared.kind.Kind.{Kind}
 use Rattle.rst_markup_directives.specs.declared.kind.OptionSet.{OptionSet}
 use Rattle.rst_markup_directives.specs.declared.kind.OptionSet.TheVariants.{Empty as NoOptions, Common, NameAlone, Sidebar as SidebarOptions, Raw as RawOptions, Include, Image, Figure}
 use Rattle.rst_markup_directives.specs.declared.kind.PartName.{PartName}
+use Rattle.rst_markup_directives.specs.declared.kind.QuoteClass.{QuoteClass}
+use Rattle.rst_markup_directives.specs.declared.kind.QuoteClass.TheVariants.{Epigraph, Highlights, PullQuote}
 use Rattle.rst_markup_directives.specs.declared.kind.PartName.TheVariants.{Usual, Code, Wider}
 use Rattle.rst_markup_directives.specs.declared.option.OptionName.{OptionName}
 use Rattle.rst_markup_directives.specs.declared.option.OptionName.TheVariants.{Class, Name, FigureWidth, FigureClass, Subtitle, File, Url, Inclusion}
@@ -65,6 +67,9 @@ directives =
     ∷ row "compound" Wider tag.Compound Absent Common Blocks Body
     ∷ row "container" Wider tag.Container Classes NameAlone Blocks Body
     ∷ row "sidebar" Wider tag.Sidebar OptionalTitle SidebarOptions Blocks Beside
+    ∷ row "epigraph" Wider tag.BlockQuote Absent NoOptions (Quotes Epigraph) Body
+    ∷ row "highlights" Wider tag.BlockQuote Absent NoOptions (Quotes Highlights) Body
+    ∷ row "pull-quote" Wider tag.BlockQuote Absent NoOptions (Quotes PullQuote) Body
     ∷ row "line-block" Wider tag.LineBlock Absent Common Verse Body
     ∷ row "math" Wider tag.MathBlock Absent Common Formulas Body
     ∷ []
@@ -155,9 +160,21 @@ abbrev pub is_paragraph : ContentKind → Bool
 is_paragraph Paragraph = true
 is_paragraph _ = false
 
+-- how many columns of its indentation the content keeps: by one, its lines are block quotes
+abbrev pub kept_columns : ContentKind → ℕ
+kept_columns (Quotes class) = 1
+kept_columns _ = 0
+
+-- the class of block quotes, as it is written
+abbrev pub quote_class : QuoteClass → List ℕ
+quote_class Epigraph = codes "epigraph"
+quote_class Highlights = codes "highlights"
+quote_class PullQuote = codes "pull-quote"
+
 -- the content is blocks
 abbrev pub has_blocks : ContentKind → Bool
 has_blocks Blocks = true
+has_blocks (Quotes class) = true
 has_blocks Paragraph = true
 has_blocks Caption = true
 has_blocks _ = false

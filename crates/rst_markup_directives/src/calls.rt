@@ -12,7 +12,7 @@ use super::argument::{Argument, argument_of};
 use super::fault::{Detail, DirectiveFault};
 use super::found::{Content, Directive, Place};
 use super::judgement::{content_fault, option_fault, permitted};
-use super::kind::Kind;
+use super::kind::{ContentKind, Kind};
 use super::layout::layout_of;
 use super::lines::run_of;
 use super::options::{Setting, excerpt, fields_of, settings_of};
@@ -137,9 +137,10 @@ fn read_run(
 {
     let all = block.to - block.from;
     let layout = layout_of(parts, kind, run, all, rest);
+    let inside = content_block(kind.content, block);
     let content = Content {
-        first: part_of(block, 0, layout.first),
-        second: part_of(block, layout.second, all),
+        first: part_of(inside, 0, layout.first),
+        second: part_of(inside, layout.second, all),
     };
     let part = part_of(block, 0, layout.argument);
     let Some(fields) = fields_of(alloc, parts, &run[layout.options..])? else {
@@ -157,6 +158,18 @@ fn read_run(
             content,
         })),
         Err(detail) => Ok(Err(detail)),
+    }
+}
+
+/// The block of a directive as its content has it, which may keep some columns of the indentation.
+fn content_block(content: ContentKind, block: Part) -> Part
+    ensures { result ≡ spec.content_block content block }
+{
+    let kept = content.kept_columns();
+    Part {
+        first_cut: block.first_cut.saturating_sub(kept),
+        rest_cut: block.rest_cut.saturating_sub(kept),
+        ..block
     }
 }
 

@@ -59,6 +59,7 @@ pub(crate) fn content_fault(
             | ContentKind::Verse
             | ContentKind::Formulas
             | ContentKind::Blocks
+            | ContentKind::Quotes(_)
             | ContentKind::Paragraph,
             true,
         ) => Some(DirectiveFault::NoContent),

@@ -70,10 +70,20 @@ pub enum ContentKind {
     Formulas,
     /// Body elements, at least one.
     Blocks,
+    /// Block quotes of a class, at least one.
+    Quotes(QuoteClass),
     /// One paragraph.
     Paragraph,
     /// A caption and a legend, or nothing.
     Caption,
+}
+
+/// The class of block quotes that a directive makes.
+#[derive(Clone, Copy, Debug, PartialEq, Eq)]
+pub enum QuoteClass {
+    Epigraph,
+    Highlights,
+    PullQuote,
 }
 
 /// Where a directive is allowed.
@@ -106,7 +116,8 @@ pub enum PartName {
 /// A directive: its name, the part that has it, and its element, argument, options and content, and where it is allowed.
 macro_rules! row {
     (
-        $name:literal in $part:ident: $element:ident, $argument:ident, $options:ident, $content:ident, $allowed:ident
+        $name:literal in $part:ident:
+        $element:ident, $argument:ident, $options:ident, $content:ident $(($class:ident))?, $allowed:ident
     ) => {
         (
             $name,
@@ -116,7 +127,7 @@ macro_rules! row {
                     element: Tag::$element,
                     argument: ArgumentKind::$argument,
                     options: OptionSet::$options,
-                    content: ContentKind::$content,
+                    content: ContentKind::$content $((QuoteClass::$class))?,
                     allowed: Allowed::$allowed,
                 },
             ),
@@ -125,7 +136,7 @@ macro_rules! row {
 }
 
 /// The directives by their names.
-const DIRECTIVES: [(&str, (PartName, Kind)); 26] = [
+const DIRECTIVES: [(&str, (PartName, Kind)); 29] = [
     row!("code" in Code: LiteralBlock, Language, Common, Lines, Body),
     row!("code-block" in Code: LiteralBlock, Language, Common, Lines, Body),
     row!("sourcecode" in Code: LiteralBlock, Language, Common, Lines, Body),
@@ -150,6 +161,9 @@ const DIRECTIVES: [(&str, (PartName, Kind)); 26] = [
     row!("compound" in Wider: Compound, Absent, Common, Blocks, Body),
     row!("container" in Wider: Container, Classes, NameAlone, Blocks, Body),
     row!("sidebar" in Wider: Sidebar, OptionalTitle, Sidebar, Blocks, Beside),
+    row!("epigraph" in Wider: BlockQuote, Absent, Empty, Quotes(Epigraph), Body),
+    row!("highlights" in Wider: BlockQuote, Absent, Empty, Quotes(Highlights), Body),
+    row!("pull-quote" in Wider: BlockQuote, Absent, Empty, Quotes(PullQuote), Body),
     row!("line-block" in Wider: LineBlock, Absent, Common, Verse, Body),
     row!("math" in Wider: MathBlock, Absent, Common, Formulas, Body),
 ];
@@ -201,8 +215,22 @@ impl ContentKind {
     {
         matches!(
             self,
-            ContentKind::Blocks | ContentKind::Paragraph | ContentKind::Caption
+            ContentKind::Blocks
+                | ContentKind::Quotes(_)
+                | ContentKind::Paragraph
+                | ContentKind::Caption
         )
+    }
+
+    /// How many columns of its indentation the content keeps.
+    pub(crate) fn kept_columns(self) -> usize
+        ensures { result ≡ spec.kept_columns self }
+    {
+        if matches!(self, ContentKind::Quotes(_)) {
+            1
+        } else {
+            0
+        }
     }
 
     /// Whether the content is one text.
@@ -213,6 +241,19 @@ impl ContentKind {
             self,
             ContentKind::Lines | ContentKind::Marked | ContentKind::Verse | ContentKind::Formulas
         )
+    }
+}
+
+impl QuoteClass {
+    /// The class as it is written.
+    pub fn name(self) -> &'static str
+        ensures { result.now ≡ spec.quote_class self }
+    {
+        match self {
+            QuoteClass::Epigraph => "epigraph",
+            QuoteClass::Highlights => "highlights",
+            QuoteClass::PullQuote => "pull-quote",
+        }
     }
 }
 

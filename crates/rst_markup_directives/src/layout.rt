@@ -43,7 +43,7 @@ pub(crate) fn layout_of(parts: Parts, kind: Kind, run: &[&str], all: usize, rest
     ensures second { length run.now ≤ all → rest ≤ all → result.second ≤ all }
 {
     match (kind.content, kind.argument) {
-        (ContentKind::Paragraph, _) => content_alone(run, all),
+        (ContentKind::Paragraph | ContentKind::Quotes(_), _) => content_alone(run, all),
         (content, ArgumentKind::Absent) => {
             // The blank lines between the two parts of a text belong to it.
             let whole = content.is_text() && 0 < before_field(parts, run);

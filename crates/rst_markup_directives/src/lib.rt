@@ -22,7 +22,9 @@ pub use argument::Argument;
 pub use calls::{called, directive};
 pub use fault::{Detail, DirectiveFault};
 pub use found::{Content, Directive, Place};
-pub use kind::{Allowed, ArgumentKind, ContentKind, Kind, OptionSet, PartName, is_wider_directive};
+pub use kind::{
+    Allowed, ArgumentKind, ContentKind, Kind, OptionSet, PartName, QuoteClass, is_wider_directive,
+};
 pub use measure::Alignment;
 pub use messages::{level_of, message};
 pub use option::OptionName;

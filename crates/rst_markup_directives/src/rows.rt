@@ -12,7 +12,7 @@ ghost use Rattle.rst_markup_directives.specs.Directive.{directive_at, directive_
 ghost use Rattle.rst_markup_directives.specs.Judgement.{content_fault, option_fault, permitted};
 ghost use Rattle.rst_markup_directives.specs.Measure.{alignment_of, measure_of, scale_of};
 ghost use Rattle.rst_markup_directives.specs.Message.{fault_level, fault_text, wrong_text};
-ghost use Rattle.rst_markup_directives.specs.Kind.{directive_named, has_option, is_wider_directive, kind};
+ghost use Rattle.rst_markup_directives.specs.Kind.{directive_named, has_option, is_wider_directive, kind, quote_class};
 ghost use Rattle.rst_markup_directives.specs.OptionName.{option_named};
 ghost use Rattle.rst_markup_directives.specs.Options.{fields_in};
 ghost use Rattle.rst_markup_directives.specs.Target.{located, named, target_value};
@@ -25,7 +25,8 @@ ghost use Rattle.rst_markup_directives.specs.declared.found.Place.TheVariants.{B
 ghost use Rattle.rst_markup_directives.specs.declared.measure.Alignment.TheVariants.{Bottom, Center, Left, Middle, Right, Top};
 ghost use Rattle.rst_markup_directives.specs.declared.kind.Allowed.TheVariants as allowed;
 ghost use Rattle.rst_markup_directives.specs.declared.kind.ArgumentKind.TheVariants.{Absent, Classes, Formats, Language, OptionalTitle, Title, Uri};
-ghost use Rattle.rst_markup_directives.specs.declared.kind.ContentKind.TheVariants.{Blocks, Caption, Empty, Lines, Marked, Paragraph, Formulas, Verse};
+ghost use Rattle.rst_markup_directives.specs.declared.kind.ContentKind.TheVariants.{Blocks, Caption, Empty, Lines, Marked, Paragraph, Formulas, Verse, Quotes};
+ghost use Rattle.rst_markup_directives.specs.declared.kind.QuoteClass.TheVariants.{Epigraph, Highlights, PullQuote};
 ghost use Rattle.rst_markup_directives.specs.declared.kind.OptionSet.TheVariants.{Common, Empty as NoOptions, Figure, Image, Include, NameAlone, Raw as RawOptions, Sidebar as SidebarOptions};
 ghost use Rattle.rst_markup_directives.specs.declared.option.OptionName.TheVariants.{Align, Alt, Class, FigureClass, FigureWidth, File, Height, Inclusion, Name as NameOption, Scale, Subtitle, Target, Url, Width};
 
@@ -52,8 +53,13 @@ pub fn names()
         ∷ Some (kind tag.Compound Absent Common Blocks allowed.Body) ∷ Some (kind tag.Container Classes NameAlone Blocks allowed.Body)
         ∷ Some (kind tag.LineBlock Absent Common Verse allowed.Body) ∷ Some (kind tag.MathBlock Absent Common Formulas allowed.Body) ∷ [] }
     ensures sidebar { directive_named all_parts (codes "Sidebar") false ≡ Some (kind tag.Sidebar OptionalTitle SidebarOptions Blocks allowed.Beside) }
+    ensures quotes { map (λ t. directive_named all_parts (codes t) false) ("epigraph" ∷ "highlights" ∷ "Pull-Quote" ∷ "pullquote" ∷ [])
+        ≡ Some (kind tag.BlockQuote Absent NoOptions (Quotes Epigraph) allowed.Body) ∷ Some (kind tag.BlockQuote Absent NoOptions (Quotes Highlights) allowed.Body)
+        ∷ Some (kind tag.BlockQuote Absent NoOptions (Quotes PullQuote) allowed.Body) ∷ None ∷ [] }
+    ensures quote_classes { map (λ class. quote_class class) (Epigraph ∷ Highlights ∷ PullQuote ∷ [])
+        ≡ codes "epigraph" ∷ codes "highlights" ∷ codes "pull-quote" ∷ [] }
     ensures without_their_part { filter (λ t. is_some (directive_named (record all_parts { directives = false }) (codes t) true)) ("rubric" ∷ "raw"
-        ∷ "parsed-literal" ∷ "include" ∷ "compound" ∷ "container" ∷ "line-block" ∷ "math" ∷ "sidebar" ∷ [])
+        ∷ "parsed-literal" ∷ "include" ∷ "compound" ∷ "container" ∷ "sidebar" ∷ "epigraph" ∷ "highlights" ∷ "pull-quote" ∷ "line-block" ∷ "math" ∷ [])
         ≡ [] }
     ensures wider { filter (λ t. is_wider_directive (codes t)) ("note" ∷ "code" ∷ "Raw" ∷ "PARSED-literal" ∷ "ra" ∷ "raws" ∷ "Math" ∷ "" ∷ [])
         ≡ "Raw" ∷ "PARSED-literal" ∷ "Math" ∷ [] }
@@ -192,6 +198,17 @@ pub fn blocks()
           content = record {
             first = record { from = 0; to = 1; first_cut = 13; rest_cut = 0 };
             second = record { from = 1; to = 1; first_cut = 0; rest_cut = 0 };
+          };
+        }) }
+    ensures quotes_keep_a_column { read_block (kind tag.BlockQuote Absent NoOptions (Quotes Epigraph) allowed.Body) false (record { from = 0; to = 3; first_cut = 13; rest_cut = 3 }) (block (":class: a"
+        ∷ "" ∷ "b" ∷ []))
+        ≡ Ok (record {
+          kind = kind tag.BlockQuote Absent NoOptions (Quotes Epigraph) allowed.Body;
+          argument = nothing;
+          options = [];
+          content = record {
+            first = record { from = 0; to = 3; first_cut = 12; rest_cut = 2 };
+            second = record { from = 3; to = 3; first_cut = 2; rest_cut = 2 };
           };
         }) }
     ensures late_code { read_block (kind tag.LiteralBlock Language Common Lines allowed.Body) true (record { from = 2; to = 3; first_cut = 3; rest_cut = 3 }) (block (":class: c" ∷ []))
@@ -336,8 +353,8 @@ pub fn places()
         ∷ false ∷ [])
         ≡ Some None ∷ Some (Some (Inside NotOneParagraph)) ∷ [] }
     ensures no_text { map (λ t. option_map (λ k. content_fault k true Body false) (directive_named all_parts (codes t) true)) ("rubric" ∷ "raw"
-        ∷ "parsed-literal" ∷ "compound" ∷ "container" ∷ "line-block" ∷ "math" ∷ [])
-        ≡ map (λ fault. Some fault) (None ∷ Some NoContent ∷ Some NoContent ∷ Some NoContent ∷ Some NoContent ∷ Some NoContent ∷ Some NoContent ∷ []) }
+        ∷ "parsed-literal" ∷ "compound" ∷ "container" ∷ "epigraph" ∷ "line-block" ∷ "math" ∷ [])
+        ≡ map (λ fault. Some fault) (None ∷ Some NoContent ∷ Some NoContent ∷ Some NoContent ∷ Some NoContent ∷ Some NoContent ∷ Some NoContent ∷ Some NoContent ∷ []) }
     ensures text { map (λ t. option_map (λ k. content_fault k false Body false) (directive_named all_parts (codes t) true)) ("rubric" ∷ "raw"
         ∷ "parsed-literal" ∷ [])
         ≡ map (λ fault. Some fault) (Some (Inside ContentNotPermitted) ∷ None ∷ None ∷ []) }

@@ -13,7 +13,7 @@ use Rattle.rst_block_nodes.specs.LineBlocks.{indented}
 use Rattle.rst_block_nodes.specs.declared.texted.Texted.{Texted}
 use Rattle.rst_block_nodes.specs.Sections.{items_of, filled}
 use Rattle.rst_block_state.specs.Constructs.{block_quote, grid}
-use Rattle.rst_block_state.specs.Directives.{first_paragraph, replacement}
+use Rattle.rst_block_state.specs.Directives.{classed, first_paragraph, replacement}
 use Rattle.rst_block_state.specs.Figures.{caption_error, figure_nodes}
 use Rattle.rst_block_state.specs.Joins.{Joining, bullets, enumerators, definitions, fields, options, alone_ending}
 use Rattle.rst_block_state.specs.Nodes.{plainly, inner_nodes, below_last_level, block_items, nodes_among, ending_notes}
@@ -29,7 +29,7 @@ use Rattle.rst_block_nodes.specs.declared.fault.BlockFault.TheVariants.{TooDeep,
 use Rattle.rst_block_state.specs.declared.frame.Frame.{Frame}
 use Rattle.rst_block_state.specs.declared.open_block.OpenBlock.{OpenBlock}
 use Rattle.rst_block_state.specs.declared.waits.Waits.{Waits}
-use Rattle.rst_block_state.specs.declared.waits.Waits.TheVariants.{ListItem as InItem, ListedBody, Quote, Element, Figure, Replacement}
+use Rattle.rst_block_state.specs.declared.waits.Waits.TheVariants.{ListItem as InItem, ListedBody, Quote, Element, Quotes, Figure, Replacement}
 use Rattle.rst_block_state.specs.declared.run.ListKind.{ListKind}
 use Rattle.rst_block_state.specs.declared.run.ListKind.TheVariants.{Bullet, Enumerated, Definition, Field, OptionItem}
 use Rattle.rst_block_state.specs.declared.run.OpenList.{OpenList}
@@ -135,6 +135,7 @@ resumed l B (ListedBody line item body heads notes) ns =
     with_item l B (element_of item [] (heads.items ++ element_of body [] (notes.items ++ ns) line ∷ []) line) (open_run_of l.run)
 resumed l B (Quote line attribution left end) ns = after_quote l B (quote_by line (option_map box_value attribution) ns) left end
 resumed l B (Element e) ns = reads_from l B (filled e ns ∷ []) l.at
+resumed l B (Quotes class) ns = reads_from l B (map (classed class) ns) l.at
 resumed l B (Figure figure start end) ns =
     let error = caption_error (first_number (drop start B)) (span_source B (record { start = start; stop = end })) in
     reads_from l B (figure_nodes figure error ns) l.at

@@ -271,6 +271,27 @@ pub fn sidebars()
         ∷ "                       b" ∷ []) }
 {}
 
+/// Block quotes of a class (Directives, 'Epigraph').
+pub fn classed_quotes()
+    ensures attribution { MeansWider (".. epigraph::" ∷ "" ∷ "   a" ∷ "" ∷ "   -- b" ∷ []) 0
+        ("<document> 0" ∷ "    <block_quote classes=\"epigraph\"> 3" ∷ "        <paragraph> 3" ∷ "            a" ∷ "        <attribution> 5"
+        ∷ "            b" ∷ []) }
+    ensures beside_the_mark { MeansWider (".. pull-quote:: a" ∷ "   b" ∷ []) 0
+        ("<document> 0" ∷ "    <block_quote classes=\"pull-quote\"> 1" ∷ "        <paragraph> 1" ∷ "            a" ∷ "            b" ∷ []) }
+    ensures several { MeansWider (".. highlights::" ∷ "" ∷ "   a" ∷ "" ∷ "   -- *b" ∷ "" ∷ "     c" ∷ []) 1
+        ("<document> 0" ∷ "    <block_quote classes=\"highlights\"> 3" ∷ "        <paragraph> 3" ∷ "            a"
+        ∷ "        <attribution text_messages=\"1\"> 5" ∷ "            <problematic message=\"0\"> 5" ∷ "                *" ∷ "            b"
+        ∷ "    <system_message level=\"2\" message=\"0\"> 5" ∷ "        <paragraph> 5" ∷ "            Inline emphasis start-string without end-string."
+        ∷ "    <block_quote classes=\"highlights\"> 7" ∷ "        <block_quote> 7" ∷ "            <paragraph> 7" ∷ "                c" ∷ []) }
+    ensures field_list { MeansWider (".. epigraph::" ∷ "   :a: b" ∷ []) 0
+        ("<document> 0" ∷ "    <block_quote classes=\"epigraph\"> 2" ∷ "        <field_list> 2" ∷ "            <field> 2" ∷ "                <field_name> 2"
+        ∷ "                    a" ∷ "                <field_body> 2" ∷ "                    <paragraph> 2" ∷ "                        b" ∷ []) }
+    ensures without_content { MeansWider (".. Epigraph::" ∷ []) 0
+        ("<document> 0" ∷ "    <system_message level=\"3\"> 1" ∷ "        <paragraph> 1"
+        ∷ "            Content block expected for the \"Epigraph\" directive; none found." ∷ "        <literal_block xml:space=\"preserve\"> 1"
+        ∷ "            .. Epigraph::" ∷ []) }
+{}
+
 /// Directives of the wider profile (Directives, 'Rubric', 'Parsed Literal Block', 'Raw Data Pass-Through', 'Including an External Document
 /// Fragment', 'Compound Paragraph', 'Container', 'Line Block', 'Math'), and a blank line after the first line of a directive (Markup Specification, 'Directives').
 pub fn wider()

@@ -8,5 +8,6 @@ returns c = record {
   content_alone = refl;
   two_parts = refl;
   field_in_a_replacement = refl;
+  quotes_keep_a_column = refl;
   late_code = refl;
 }
