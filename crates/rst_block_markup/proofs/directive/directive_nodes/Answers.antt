@@ -1,4 +1,4 @@
-use Rattle.std.proofs.Common.{◌≡◌, ◌∷◌, true, false, arith, refl, rules, sym, ap, ◌∙◌}
+use Rattle.std.proofs.Common.{◌≡◌, true, false, arith, refl, rules, sym, ap, ◌∙◌}
 use Rattle.std.specs.Str.{chars}
 use Rattle.rst_text.specs.ViewBlock.{block_of}
 use Rattle.rst_markup_directives.specs.Argument.{nothing, title, uri}
