@@ -41,8 +41,6 @@ use Rattle.rst_block_nodes.specs.Elements.{element_of, preserving, substitution_
 use Rattle.rst_block_nodes.specs.Options.{body_attrs, given_attrs, image_node, link_attrs, link_chosen, link_meant, linked_by, literal_element, subtitle_chosen, subtitle_meant, with_alt, value_meant, with_value_at, with_choices, with_options, directive_element}
 use Rattle.rst_block_nodes.specs.Readings.{read_nodes, read_notes, subtitled}
 use Rattle.rst_block_nodes.specs.Formulas.{formula, formulas_from, parts_of}
-use Rattle.rst_block_nodes.specs.declared.settings.Holder.{Holder}
-use Rattle.rst_block_nodes.specs.declared.settings.Holder.TheVariants.{Body, Figure, Further}
 use Rattle.rst_block_nodes.specs.Sections.{filled}
 use Rattle.rst_block_nodes.specs.Targets.{may_replace}
 use Rattle.rst_block_nodes.specs.Texts.{counting}
@@ -247,23 +245,19 @@ module _ (P : ℕ → Bool) (T : List ℕ → Type 0) (s : Suited P T) (c : With
   parts_kept (ch ∷ d ∷ cs) h =
       cond_both (ch == 10 && d == 10) _ _ (AllByRecursion (Kept P)) (λ e. (tt, parts_kept cs h.1.1)) (λ e. onto_kept P ch (parts_of (d ∷ cs)) h.0 (parts_kept (d ∷ cs) h.1))
 
-  holder_has : (holder : Holder) (read : Read) → ReadHas P T s read → AttrsHave T (with_choices holder read.options preserving)
-  holder_has Further read h = chosen_has _ (elim [ Name ↦ λ m h. tt | _ ↦ λ m h. tt ]) read.options preserving h.1 (tt, tt)
-  holder_has Body read h = body_has read preserving h (tt, tt)
-  holder_has Figure read h = chosen_has _ (elim [ Name ↦ λ m h. tt | _ ↦ λ m h. tt ]) read.options preserving h.1 (tt, tt)
-  holder_has _ read h = chosen_has _ (elim [ Name ↦ λ m h. h | _ ↦ λ m h. tt ]) read.options preserving h.1 (tt, tt)
-
-  formula_fits : (holder : Holder) (line : ℕ) (read : Read) (text : List ℕ) → Kept P text → ReadHas P T s read → Fits T (k + 2) (formula holder read.kind.element read.options line text)
-  formula_fits holder line read text b h =
+  formula_fits : (holder : _) (line : ℕ) (read : Read) (text : List ℕ) → Kept P text → ReadHas P T s read → AttrsHave T (with_choices holder read.options preserving)
+      → Fits T (k + 2) (formula holder read.kind.element read.options line text)
+  formula_fits holder line read text b h own =
       elim (encode_utf8_all text) as (λ t. T t → Fits T (k + 2) (element_of read.kind.element (with_choices holder read.options preserving) (text_nodes t) line)) [
-        | [] ↦ λ e. open_fits T read.kind.element _ line 1 (k + 2) [] h.0 (holder_has holder read h) tt (omega arith)
-        | d ∷ ds ↦ λ e. open_fits T read.kind.element _ line 1 (k + 2) (text_nodes (d ∷ ds)) h.0 (holder_has holder read h) ((omega arith, e), tt) (omega arith)
+        | [] ↦ λ e. open_fits T read.kind.element _ line 1 (k + 2) [] h.0 own tt (omega arith)
+        | d ∷ ds ↦ λ e. open_fits T read.kind.element _ line 1 (k + 2) (text_nodes (d ∷ ds)) h.0 own ((omega arith, e), tt) (omega arith)
       ] (s.encoded text b)
 
-  formulas_fit : (holder : Holder) (line : ℕ) (read : Read) (parts : List (List ℕ)) → AllByRecursion (Kept P) parts → ReadHas P T s read → AllFit T (k + 2) (formulas_from holder read.kind.element read.options line parts)
-  formulas_fit holder line read [] b h = tt
-  formulas_fit holder line read ([] ∷ parts) b h = formulas_fit holder line read parts b.1 h
-  formulas_fit holder line read ((ch ∷ cs) ∷ parts) b h = (formula_fits holder line read (ch ∷ cs) b.0 h, formulas_fit Further line read parts b.1 h)
+  formulas_fit : (holder : _) (line : ℕ) (read : Read) (parts : List (List ℕ)) → AllByRecursion (Kept P) parts → ReadHas P T s read → AttrsHave T (with_choices holder read.options preserving)
+      → AllFit T (k + 2) (formulas_from holder read.kind.element read.options line parts)
+  formulas_fit holder line read [] b h own = tt
+  formulas_fit holder line read ([] ∷ parts) b h own = formulas_fit holder line read parts b.1 h own
+  formulas_fit holder line read ((ch ∷ cs) ∷ parts) b h own = (formula_fits holder line read (ch ∷ cs) b.0 h own, formulas_fit _ line read parts b.1 h (chosen_has _ (elim [ Name ↦ λ m h. tt | _ ↦ λ m h. tt ]) read.options preserving h.1 (tt, tt)))
 
   closed_one : (given : ArgumentMeaning) (B : Block) (line : ℕ) (read : Read) → BlockKept P B → ReadHas P T s read → Gives (AllFit T (k + 2)) (just (element_by given None B line read ∷ []))
   closed_one given B line read b h = let own = element_fits given None B line read tt b h in give_one (omega (arith, own.0.0), own.0.1)
@@ -275,7 +269,7 @@ module _ (P : ℕ → Bool) (T : List ℕ → Type 0) (s : Suited P T) (c : With
   closed_fits : (content : ContentKind) (B : Block) (line : ℕ) (read : Read) → BlockKept P B → ReadHas P T s read → Gives (AllFit T (k + 2)) (closed_with content c.levels B line read)
   closed_fits Marked B line read b h = marked_fits (first_parts B) true line read _ (content_kept B read.content b) h
   closed_fits Verse B line read b h = verse_fits read _ (content_kept B read.content b) h
-  closed_fits Formulas B line read b h = give (formulas_fit Body line read _ (parts_kept _ (joined_kept P T s _ (content_kept B read.content b))) h)
+  closed_fits Formulas B line read b h = give (formulas_fit _ line read _ (parts_kept _ (joined_kept P T s _ (content_kept B read.content b))) h (body_has read preserving h (tt, tt)))
   closed_fits _ B line read b h = argued_fits read.argument B line read b h
 
   right_fits : (B : Block) (line : ℕ) (read : Read) (lines : List ℕ) → BlockKept P B → ReadHas P T s read → T lines → Gives (AllFit T (k + 2)) (right_nodes c B line read lines)

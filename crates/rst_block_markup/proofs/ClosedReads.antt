@@ -1,5 +1,5 @@
 -- What a directive leaves that holds no blocks.
-use Rattle.std.proofs.Common.{◌≡◌, ℕ, false, List, [], ◌∷◌, Result, Ok, Err, refl, sym, ap, ◌∙◌}
+use Rattle.std.proofs.Common.{◌≡◌, ℕ, false, List, ◌∷◌, Result, Ok, Err, refl, sym, ap, ◌∙◌}
 use Rattle.std.specs.declared.vec.Vec.{Vec}
 use Rattle.rst_text.specs.Block.{Block}
 use Rattle.rst_tree.specs.declared.node.Node.{Node}
@@ -18,10 +18,10 @@ use Rattle.rst_block_state.specs.machine.OpenBlocks.{Gives}
 use Rattle.rst_block_markup.specs.MarkupSteps.{HoldsNodes}
 
 -- nodes are kept that are held
-pub held_keeps : {A : Type 0} {nodes : Numbered (List Node)} {n m : ℕ} (r : Result (Vec Node A) BlockFault) → Gives (HoldsNodes nodes n m) r → Keeps r (λ (made : Vec Node A). Ok (made.items, m)) (nodes n)
-held_keeps (Ok made) h = sym h
-held_keeps (Err (TooDeep line)) h = absurd h
-held_keeps (Err NoMemory) h = tt
+pub held_keeps : {A : Type 0} (nodes : Numbered (List Node)) (n m : ℕ) (r : Result (Vec Node A) BlockFault) → Gives (HoldsNodes nodes n m) r → Keeps r (λ (made : Vec Node A). Ok (made.items, m)) (nodes n)
+held_keeps nodes n m (Ok made) h = sym h
+held_keeps nodes n m (Err (TooDeep line)) h = absurd h
+held_keeps nodes n m (Err NoMemory) h = tt
 
 -- a directive whose content says nothing of its element
 pub other_closed : (content : ContentKind) → (content ≡ Marked → ⊥) → (content ≡ Verse → ⊥) → (content ≡ Formulas → ⊥) → (levels : ℕ) (B : Block) (line : ℕ) (read : Read)
@@ -32,14 +32,14 @@ other_closed Formulas marked verse formulas levels B line read = absurd (formula
 other_closed _ marked verse formulas levels B line read = refl
 
 -- a line block with its options
-pub verse_made : {levels n m : ℕ} {lines : List IndentedLine} (read : Read) (X : Block) (element : Node) (notes : List Node) → lines ≡ verse_lines 0 X → line_block levels lines n ≡ Ok ((element, notes), m)
+pub verse_made : (levels n m : ℕ) (lines : List IndentedLine) (read : Read) (X : Block) (element : Node) (notes : List Node) → lines ≡ verse_lines 0 X → line_block levels lines n ≡ Ok ((element, notes), m)
     → verse_nodes levels read X n ≡ Ok (with_options false read.options element ∷ notes, m)
-verse_made {levels} {n} read X element notes same made =
+verse_made levels n m lines read X element notes same made =
     ap (then_read (λ (made : Node × List Node). just (with_options false read.options made.0 ∷ made.1))) (ap (λ ls. line_block levels ls n) (sym same) ∙ made)
 
 -- a line block that is nested too deeply
-pub verse_refused : {A : Type 0} {levels n m : ℕ} {lines : List IndentedLine} {follows : A → Result (List Node × ℕ) ℕ} (read : Read) (X : Block) (fault : BlockFault) (r : Result A BlockFault) → lines ≡ verse_lines 0 X
+pub verse_refused : {A : Type 0} (levels n m : ℕ) (lines : List IndentedLine) (follows : A → Result (List Node × ℕ) ℕ) (read : Read) (X : Block) (fault : BlockFault) (r : Result A BlockFault) → lines ≡ verse_lines 0 X
     → MakesLineBlock (line_block levels lines n) m (Err fault) → r ≡ Err fault → Keeps r follows (verse_nodes levels read X n)
-verse_refused {levels = levels} {n} read X (TooDeep line) r same h e =
+verse_refused levels n m lines follows read X (TooDeep line) r same h e =
     rw e (ap (then_read (λ (made : Node × List Node). just (with_options false read.options made.0 ∷ made.1))) (ap (λ ls. line_block levels ls n) (sym same) ∙ h))
-verse_refused read X NoMemory r same h e = rw e tt
+verse_refused levels n m lines follows read X NoMemory r same h e = rw e tt

@@ -1,34 +1,15 @@
 -- The lines of a directive's line block, as they are kept, and as they are meant.
-use Rattle.std.proofs.Common.{◌≡◌, ℕ, ◌+◌, ◌<◌, true, false, cond, List, [], ◌∷◌, ◌++◌, length, take, drop, length-drop, append_assoc, Option, None, Some, arith, refl, sym, ap, ◌∙◌, subst}
-use Rattle.std.specs.Prelude.{string_bytes, unwrap_or}
-use Rattle.std.specs.Str.{chars}
+use Rattle.std.proofs.Common.{◌≡◌, ℕ, ◌+◌, ◌<◌, List, [], ◌∷◌, ◌++◌, length, take, drop, length-drop, append_assoc, arith, refl, sym, ap, ◌∙◌, subst}
+use Rattle.std.specs.Prelude.{unwrap_or}
 use Rattle.std.proofs.Math.Seq.{take-add}
-use Rattle.std.proofs.lemmas.Bool.{cond_both}
-use Rattle.rst_settings.specs.declared.Parts.{Parts}
-use Rattle.rst_text.specs.Block.{Block, Line, is_blank}
-use Rattle.rst_block_nodes.specs.LineBlocks.{IndentedLine, indented_by, indented_from}
+use Rattle.rst_text.specs.Block.{Block, Line}
+use Rattle.rst_markup_directives.specs.declared.found.Content.{Content}
+use Rattle.rst_block_nodes.specs.LineBlocks.{IndentedLine, indented, indented_by, indented_from}
 use Rattle.rst_block_nodes.specs.declared.line_blocks.BarText.{BarText}
-use Rattle.rst_block_state.specs.LineRuns.{verse_indent, verse_line, verse_lines, white_len}
+use Rattle.rst_block_state.specs.Directives.{content_lines}
+use Rattle.rst_block_state.specs.LineRuns.{verse_indent, verse_line, verse_lines}
+use Rattle.rst_block_state.specs.Texts.{lines_in}
 use Rattle.rst_block_markup.specs.MarkupSteps.{AreVerse, IsVerse}
-
--- ---- a line
-
-made : ℕ → ℕ → ℕ → List ℕ → Parts → IndentedLine
-made indent line text_line text parts = record { indent = indent; line = line; text_line = text_line; text = text; parts = parts }
-
-pub line_is : (l : Line) (bar : BarText) (white : ℕ) → bar.indent ≡ cond (is_blank l.text) None (Some white) → bar.line ≡ l.number → bar.text_line ≡ l.number → white ≡ white_len l.text
-    → chars (string_bytes bar.text) ≡ drop white l.text → bar.parts ≡ l.parts → IsVerse bar l
-line_is l bar white indent line text_line w text parts last =
-    let deep : unwrap_or bar.indent last ≡ verse_indent last l =
-    ap (λ o. unwrap_or o last) indent ∙ cond_both (is_blank l.text) None (Some white) (λ o. unwrap_or o last ≡ cond (is_blank l.text) last (white_len l.text))
-    (λ e. sym (ap (λ b. cond b last (white_len l.text)) e)) (λ e. w ∙ sym (ap (λ b. cond b last (white_len l.text)) e)) in
-    ap (λ n. made n bar.line bar.text_line (chars (string_bytes bar.text)) bar.parts) deep
-    ∙ ap (λ n. made (verse_indent last l) n bar.text_line (chars (string_bytes bar.text)) bar.parts) line
-    ∙ ap (λ n. made (verse_indent last l) l.number n (chars (string_bytes bar.text)) bar.parts) text_line
-    ∙ ap (λ t. made (verse_indent last l) l.number l.number t bar.parts) (text ∙ ap (λ n. drop n l.text) w)
-    ∙ ap (made (verse_indent last l) l.number l.number (drop (white_len l.text) l.text)) parts
-
--- ---- lines
 
 -- they have the same indentations and texts
 pub verse_is : (bars : List BarText) (B : Block) → AreVerse bars B → (last : ℕ) → indented_from last bars ≡ verse_lines last B
@@ -56,3 +37,11 @@ verse_step bars B X at bar within h one = by (drop at X) refl
     by (l ∷ ls) e =
         let taken : take at X ++ l ∷ [] ≡ take (at + 1) X = ap (λ (Y : Block). take at X ++ take 1 Y) e ∙ sym (take-add at 1 X) in
         subst (AreVerse (bars ++ bar ∷ [])) (append_assoc B (take at X) (l ∷ []) ∙ ap (λ Y. B ++ Y) taken) (verse_more bars (B ++ take at X) bar l h (one l ls e))
+
+-- the lines of a content, after none
+pub content_is : (B : Block) (content : Content) (none some lines : List BarText) (one two : Block) → none ≡ [] → ((A : Block) → AreVerse none A → AreVerse some (A ++ one)) → ((A : Block) → AreVerse some A → AreVerse lines (A ++ two))
+    → one ≡ lines_in B content.first → two ≡ lines_in B content.second → indented lines ≡ verse_lines 0 (content_lines B content)
+content_is B content none some lines one two empty first second o t =
+    let begun : AreVerse some one = first [] (subst (λ (xs : List BarText). AreVerse xs []) (sym empty) tt) in
+    let whole : one ++ two ≡ content_lines B content = ap (λ (Y : Block). Y ++ two) o ∙ ap (λ Y. lines_in B content.first ++ Y) t in
+    verse_is lines (content_lines B content) (subst (AreVerse lines) whole (second one begun)) 0

@@ -138,8 +138,18 @@ fn verse(view: &View<'_>, depth: usize, found: &Found, pass: &mut Pass) -> Resul
 {
     let alloc = pass.alloc;
     let mut lines = Vec::new(alloc);
-    add_lines(alloc, &mut lines, &inside(view, found.content.first), &mut pass.looks)?;
-    add_lines(alloc, &mut lines, &inside(view, found.content.second), &mut pass.looks)?;
+    add_lines(
+        alloc,
+        &mut lines,
+        &inside(view, found.content.first),
+        &mut pass.looks,
+    )?;
+    add_lines(
+        alloc,
+        &mut lines,
+        &inside(view, found.content.second),
+        &mut pass.looks,
+    )?;
     let made = line_block(alloc, lines, depth, DEEPEST, &mut pass.numbers)?;
     let element = with_options(alloc, made.element, false, found.options.as_slice())?;
     let mut nodes = alone(alloc, element)?;

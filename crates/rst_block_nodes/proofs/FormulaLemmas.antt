@@ -1,5 +1,5 @@
 -- Formulas that are being made: parts of a text between pairs of line feeds, and the formulas of those that come next.
-use Rattle.std.proofs.Common.{◌≡◌, ℕ, ◌+◌, ◌-◌, ◌<◌, ◌≤◌, ◌==◌, ◌&&◌, Bool, true, false, List, [], ◌∷◌, ◌++◌, length, take, drop, length-drop, Option, None, Some, refl, sym, ap, ◌∙◌, subst, arith, append_assoc, inl, inr}
+use Rattle.std.proofs.Common.{◌≡◌, ℕ, ◌+◌, ◌-◌, ◌<◌, ◌≤◌, ◌==◌, ◌&&◌, true, false, List, [], ◌∷◌, ◌++◌, length, take, drop, length-drop, None, refl, sym, ap, ◌∙◌, arith, append_assoc, inl, inr}
 use Rattle.std.specs.Prelude.{encode_utf8_all}
 use Rattle.std.specs.List.{onto_first}
 use Rattle.std.specs.Str.{IsUtf8, chars}
@@ -12,7 +12,6 @@ use Rattle.rst_tree.specs.declared.node.Node.{Node}
 use Rattle.rst_tree.specs.declared.tag.Tag.{Tag}
 use Rattle.rst_markup_directives.specs.Options.{OptionSetting}
 use Rattle.rst_block_nodes.specs.Formulas.{formula, formulas_from, holder_after, parts_of}
-use Rattle.rst_block_nodes.specs.declared.settings.Holder.{Holder}
 use Rattle.rst_block_nodes.specs.declared.settings.Holder.TheVariants.{Further}
 
 -- ---- parts of a text

@@ -1,5 +1,4 @@
-use Rattle.std.proofs.Common.{◌++◌, ◌+◌, [], List, length, take, arith, rules, sym, ap, subst, append-nil}
-use Rattle.std.proofs.Math.Seq.{take-length}
+use Rattle.std.proofs.Common.{◌++◌, ◌+◌, List, take, arith, rules, sym, subst, append-nil}
 use Rattle.rst_text.specs.Block.{Block}
 use Rattle.rst_text.specs.ViewBlock.{block_of}
 use Rattle.rst_block_nodes.specs.declared.line_blocks.BarText.{BarText}

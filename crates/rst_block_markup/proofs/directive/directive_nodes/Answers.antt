@@ -1,24 +1,29 @@
-use Rattle.std.proofs.Common.{◌≡◌, ◌∷◌, true, false, arith, refl, rules, sym, ap, ◌∙◌}
+use Rattle.std.proofs.Common.{◌≡◌, true, false, arith, refl, rules, sym, ap, ◌∙◌}
 use Rattle.std.specs.Str.{chars}
 use Rattle.rst_text.specs.ViewBlock.{block_of}
 use Rattle.rst_markup_directives.specs.Argument.{nothing, title, uri}
 use Rattle.rst_markup_directives.specs.Kind.{has_blocks}
 use Rattle.rst_block_state.specs.Directives.{opened_by}
 use Rattle.rst_block_state.specs.looks.Ledger.{argument_lines}
-use Rattle.rst_block_state.proofs.Changes.{moved_more, more_more}
+use Rattle.rst_block_state.proofs.Changes.{moved_more}
 use Rattle.rst_block_markup.specs.MarkupSteps.{read_of_directive}
-use Rattle.rst_block_markup.proofs.DirectiveReads.{closed_read, opened_read, plain_opened}
+use Rattle.rst_block_markup.proofs.DirectiveReads.{closed_read, closed_refused, opened_read, plain_opened}
 use Rattle.rst_block_markup.proofs.directive.directive_nodes.Goals as goal
 
 pub returns-then-not-has_blocks : goal.returns-then-not-has_blocks
 returns-then-not-has_blocks c =
     let f = c.args.found.now in
     let none : has_blocks f.kind.content ≡ false = sym c.has_blocks.ensures ∙ (let p : c.has_blocks.result ≡ false = search rules in p) in
-    let made = c.in_ok-made.made in
     let later = c.requires.right.later in
-    let looked = c.in_ok-made.ensures.looked in
-    closed_read f (made.element ∷ made.notes.items) none (more_more (moved_more c.go_to.ensures.moved (c.go_to.ensures.there later) c.in_ok-push.ensures.more) c.in_ok-append.ensures.more)
-    later c.in_ok-made.ensures.read (omega (arith, looked.0)) (omega (arith, looked.1))
+    let looked = c.in_ok-nodes.ensures.looked in
+    closed_read f c.in_ok-nodes.nodes.items none (moved_more c.go_to.ensures.moved (c.go_to.ensures.there later) c.in_ok-append.ensures.more)
+    later (sym c.in_ok-nodes.ensures.read) (omega (arith, looked.0)) (omega (arith, looked.1))
+
+pub returns-in_err-nodes : goal.returns-in_err-nodes
+returns-in_err-nodes c =
+    let f = c.args.found.now in
+    let none : has_blocks f.kind.content ≡ false = sym c.has_blocks.ensures ∙ (let p : c.has_blocks.result ≡ false = search rules in p) in
+    closed_refused f c.in_err-nodes.field-0.0 _ none c.in_err-nodes.ensures.read (search rules)
 
 pub returns-in-Title : goal.returns-in-Title
 returns-in-Title c =

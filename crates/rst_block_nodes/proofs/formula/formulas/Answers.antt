@@ -1,4 +1,4 @@
-use Rattle.std.proofs.Common.{◌++◌, ◌∷◌, [], List, ℕ, rules, sym, ap, ◌∙◌}
+use Rattle.std.proofs.Common.{◌++◌, [], rules, sym, ap, ◌∙◌}
 use Rattle.std.specs.Str.{chars}
 use Rattle.std.proofs.lemmas.List.{append-nil}
 use Rattle.std.proofs.lemmas.Option.{MatchOption-at_none}
@@ -13,7 +13,7 @@ loop-part-preserved c =
     let parted = next_part c.loop-part.rest.now c.in-Some.part.now c.in-Some.after.now c.loop-part.invariant.0 (search rules) c.in-Some.ensures.cases in (
       search rules,
       c.in_ok-add_formula.ensures (parts_of (chars c.in-Some.after.now))
-      ∙ ap (λ ps. ns ++ formulas_from (holder_after ns) c.args.element (choices_in c.args.options.now) c.args.line ps) (sym parted) ∙ c.loop-part.invariant.1,
+          ∙ ap (λ ps. ns ++ formulas_from (holder_after ns) c.args.element (choices_in c.args.options.now) c.args.line ps) (sym parted) ∙ c.loop-part.invariant.1,
     )
 
 pub returns : goal.returns
