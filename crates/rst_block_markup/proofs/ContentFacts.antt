@@ -73,6 +73,7 @@ no_text : (content : ContentKind) → has_blocks content ≡ true → is_text co
 no_text Blocks b = refl
 no_text Paragraph b = refl
 no_text Caption b = refl
+no_text (Quotes class) b = refl
 no_text _ b = absurd (let no : false ≡ true = b in cc)
 
 parts_laid : (parts : Parts) (content : ContentKind) (argument : ArgumentKind) (run : List Text) (H : Block) → has_blocks content ≡ true → is_trimmed H ≡ true → length run ≤ length H
