@@ -1,21 +1,21 @@
 //! Directives as blocks (Markup Specification, 'Directives').
-ghost use Rattle.std.specs.Prelude.{◌≡◌, ℕ, ◌+◌, ◌-◌, ◌*◌, ◌<◌, ◌≤◌, ◌==◌, ◌∷◌, [], length, string_bytes, drop, slice_range, option_map, Some, Ok, IfOk};
+ghost use Rattle.std.specs.Prelude.{◌≡◌, ℕ, ◌+◌, ◌-◌, ◌*◌, ◌<◌, ◌≤◌, ◌==◌, length, slice_range, Some, Ok, IfOk};
 ghost use Rattle.std.specs.Str.{chars};
-ghost use Rattle.rst_text.specs.Block.{Block, first_number};
+ghost use Rattle.rst_text.specs.Block.{Block};
 ghost use Rattle.rst_text.specs.Looked.{Looked, capped};
 ghost use Rattle.rst_text.specs.ViewBlock.{block_of};
 ghost use Rattle.rst_markup_directives.specs.Argument as given;
 ghost use Rattle.rst_markup_directives.specs.Directive as directives;
 ghost use Rattle.rst_markup_directives.specs.Wrong.{fault_in};
 ghost use Rattle.rst_block_state.specs.Directives as meaning;
-ghost use Rattle.rst_block_markup.specs.MarkupSteps.{HoldsNodes, IsDirectiveRead, IsOpenedRead, IsPartRead, IsRight, marked_text, place_in, read_of_directive, text_lines};
+ghost use Rattle.rst_block_markup.specs.MarkupSteps.{IsDirectiveRead, IsOpenedRead, IsPartRead, IsRight, place_in, text_lines};
 ghost use Rattle.rst_block_state.specs.machine.Meanings.{within_at};
-ghost use Rattle.rst_markup_directives.specs.Call.{IsArgumentIn, IsContentIn, IsDirectiveIn};
+ghost use Rattle.rst_markup_directives.specs.Call.{IsArgumentIn, IsDirectiveIn};
 ghost use Rattle.rst_markup_directives.specs.declared.found.Place.{Place};
 ghost use Rattle.rst_markup_blocks.specs.Parts.{IsBlock, IsCall};
 ghost use Rattle.rst_block_state.specs.machine.OpenBlocks.{Gives, IsMoved};
 ghost use Rattle.rst_block_state.specs.Paragraphs.{is_single_paragraph};
-ghost use Rattle.rst_block_state.specs.Texts.{lines_in, spelled};
+ghost use Rattle.rst_block_state.specs.Texts.{lines_in};
 ghost use Rattle.rst_block_state.specs.declared.step.Step.TheVariants.{Open};
 ghost use Rattle.rst_block_state.specs.declared.texts.Pass.{Pass};
 ghost use Rattle.rst_block_state.specs.looks.Ledger.{unread_at};
@@ -38,7 +38,7 @@ use rst_markup_directives::{
 };
 use rst_text::{Looks, View};
 use rst_tree::{Node, Tag};
-use std::alloc::{AllocError, Global};
+use std::alloc::Global;
 
 /// What a directive is, where `place` is its place.
 pub(crate) fn directive_at(
