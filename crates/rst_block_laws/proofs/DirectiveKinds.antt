@@ -1,6 +1,6 @@
 -- The element of a directive may hold any nodes, and what is read of its options consists of characters of its lines.
-use Rattle.std.proofs.Common.{ℕ, Bool, true, false, List, [], ◌∷◌, ◌++◌, drop, Option, None, Some, Result, Ok, Err, option_map, refl, rules}
-use Rattle.std.specs.Prelude.{◌&&◌, ◌||◌, MatchResult, encode_utf8_all, not, ok_or, option_and_then, if◌then◌else◌}
+use Rattle.std.proofs.Common.{ℕ, Bool, true, false, List, [], ◌∷◌, drop, Option, None, Some, Result, Ok, Err, option_map, refl, rules}
+use Rattle.std.specs.Prelude.{◌&&◌, ◌||◌, MatchResult, encode_utf8_all, not, ok_or, option_and_then}
 use Rattle.std.specs.List.{AllByRecursion}
 use Rattle.std.specs.Option.{IfSome, option_or}
 use Rattle.std.specs.Result.{result_map_both}

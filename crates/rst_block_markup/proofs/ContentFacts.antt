@@ -6,7 +6,7 @@ use Rattle.std.proofs.lemmas.List.{drop-drop, length-map}
 use Rattle.std.proofs.lemmas.List.Sums.{prefix_len-le-length}
 use Rattle.rst_markup_directives.proofs.DirectiveParts.{run_in-le}
 use Rattle.rst_settings.specs.declared.Parts.{Parts}
-use Rattle.rst_text.specs.Block.{Line, Block, cut, first_parts, first_text, is_blank, shorten, shorten_all}
+use Rattle.rst_text.specs.Block.{Block, cut, first_parts, first_text, is_blank, shorten, shorten_all}
 use Rattle.rst_text.specs.Lines.{ends_white}
 use Rattle.rst_text.proofs.CutLaws.{take-cut, drop-cut}
 use Rattle.rst_markup_blocks.proofs.RowLaws.{while_le}

@@ -1,12 +1,9 @@
 -- What a block gives once explicit markup in it is read.
-use Rattle.std.proofs.Common.{◌≡◌, ℕ, ◌+◌, ◌<◌, ◌≤◌, Bool, true, false, length, length-drop, List, [], ◌∷◌, ◌++◌, drop, map, Option, Some, None, Result, Ok, Err, arith, refl, sym, ◌∙◌, ap, append_assoc}
+use Rattle.std.proofs.Common.{◌≡◌, ℕ, ◌+◌, ◌<◌, ◌≤◌, Bool, true, false, length, length-drop, List, [], ◌∷◌, ◌++◌, drop, map, Option, Some, None, Err, arith, refl, sym, ◌∙◌, ap}
 use Rattle.std.specs.Prelude.{box_value, is_some, ◌&&◌, if◌then◌else◌}
 use Rattle.std.proofs.lemmas.Bool.{eqb-true}
 use Rattle.rst_text.specs.Block.{Block, first_text}
-use Rattle.rst_tree.specs.Nodes.{forest_of, nodes_of}
 use Rattle.rst_tree.specs.declared.node.Node.{Node}
-use Rattle.rst_tree.specs.declared.node.Node.TheVariants.{Element, Text}
-use Rattle.rst_tree.proofs.Changes.{nodes_of-forest_of}
 use Rattle.rst_markup_lines.specs.ExplicitMarks.{dots, underscores}
 use Rattle.rst_markup_lines.specs.TextStart.{begins_with}
 use Rattle.rst_markup_lines.specs.Marker.{marker_of}
@@ -23,7 +20,6 @@ use Rattle.rst_markup_blocks.specs.declared.part.Part.{Part}
 use Rattle.rst_markup_blocks.proofs.ExplicitLemmas.{indented_some, size_other}
 use Rattle.rst_markup_blocks.proofs.RowLemmas.{row_at}
 use Rattle.rst_markup_directives.specs.declared.found.Content.{Content}
-use Rattle.rst_block_nodes.specs.Sections.{filled}
 use Rattle.rst_block_state.specs.Constructs.{explicit_markup}
 use Rattle.rst_block_state.specs.Directives.{content_nodes}
 use Rattle.rst_block_state.specs.Joins.{joining_after}

@@ -42,14 +42,14 @@ returns-in-Figure c =
     let old = c.args.level.now in
     let x = c.in-Figure in
     let m = c.in_ok-append_marked-in-Figure.ensures.more in
-    let run : run_looks c.append_marked.new.self.run ≡ run_looks old.run = ap run_looks m.run in
+    let run : run_looks c.append_marked-in-Figure.new.self.run ≡ run_looks old.run = ap run_looks m.run in
     let lines : waiting_looks c.args.waits ≡ x.end - x.start = ap waiting_looks x.is in
     record {
       step = m.at;
       goes = record {
         kept = m.depth;
         read = nodes_given B n m c.in_ok-made-in-Figure.ensures.figure refl ∙ ap (λ waits. resumed old B waits c.args.nodes n) (sym x.is);
-        paid = waited old c.append_marked.new.self B c.args.waits _ _ (subst WaitsForOne (sym x.is) tt) m.depth m.at (omega (arith, run)) (omega (arith, lines, c.finished_figure.ensures.looks)) c.in_ok-made-in-Figure.ensures.low;
+        paid = waited old c.append_marked-in-Figure.new.self B c.args.waits _ _ (subst WaitsForOne (sym x.is) tt) m.depth m.at (omega (arith, run)) (omega (arith, lines, c.finished_figure.ensures.looks)) c.in_ok-made-in-Figure.ensures.low;
       };
     }
 
