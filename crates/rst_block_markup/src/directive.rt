@@ -8,7 +8,7 @@ ghost use Rattle.rst_markup_directives.specs.Argument as given;
 ghost use Rattle.rst_markup_directives.specs.Directive as directives;
 ghost use Rattle.rst_markup_directives.specs.Wrong.{fault_in};
 ghost use Rattle.rst_block_state.specs.Directives as meaning;
-ghost use Rattle.rst_block_markup.specs.MarkupSteps.{IsDirectiveRead, IsOpenedRead, IsPartRead, IsRight, place_in, text_lines};
+ghost use Rattle.rst_block_markup.specs.MarkupSteps.{IsDirectiveRead, IsOpenedRead, IsPartRead, IsRight, place_in, text_lines, read_of_directive};
 ghost use Rattle.rst_block_state.specs.machine.Meanings.{within_at};
 ghost use Rattle.rst_markup_directives.specs.Call.{IsArgumentIn, IsDirectiveIn};
 ghost use Rattle.rst_markup_directives.specs.declared.found.Place.{Place};
