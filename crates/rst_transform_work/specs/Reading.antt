@@ -1,6 +1,6 @@
 -- The values of an element's attributes.
 use Rattle.std.specs.Prelude.{ℕ, Bool, true, false, List, [], Option, Some, unwrap_or}
-use Rattle.rst_tree.specs.declared.tag.Tag.TheVariants.{Comment, Target, SubstitutionDefinition, SystemMessage, Subtitle, Title}
+use Rattle.rst_tree.specs.declared.tag.Tag.TheVariants.{Comment, Target, Raw, SubstitutionDefinition, SystemMessage, Subtitle, Title}
 use Rattle.rst_tree.specs.declared.attrs.Attr.{Attr}
 use Rattle.rst_tree.specs.declared.attrs.Value.{Value}
 use Rattle.rst_tree.specs.declared.attrs.Value.TheVariants.{List as Listed}
@@ -40,10 +40,11 @@ is_title (Element Title a c l) = true
 is_title (Element Subtitle a c l) = true
 is_title _ = false
 
--- what may come before a lone section: a comment, a target, a substitution definition or a message
+-- what may come before a lone section: a comment, a target, a substitution definition, raw data or a message
 abbrev pub may_precede : Node → Bool
 may_precede (Element Comment a c l) = true
 may_precede (Element Target a c l) = true
 may_precede (Element SubstitutionDefinition a c l) = true
+may_precede (Element Raw a c l) = true
 may_precede (Element SystemMessage a c l) = true
 may_precede _ = false

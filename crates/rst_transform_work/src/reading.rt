@@ -78,7 +78,7 @@ pub fn may_precede(node: &Node) -> bool
     match node {
         Node::Element { tag, .. } => matches!(
             tag,
-            Tag::Comment | Tag::Target | Tag::SubstitutionDefinition | Tag::SystemMessage
+            Tag::Comment | Tag::Target | Tag::SubstitutionDefinition | Tag::Raw | Tag::SystemMessage
         ),
         Node::Text(_) => false,
     }

@@ -6,7 +6,7 @@ ghost use Rattle.rst_text.specs.Names.{identifier, name_in};
 ghost use Rattle.rst_tree.specs.declared.key.Key.TheVariants.{Dupnames, Ids, Names};
 ghost use Rattle.rst_tree.specs.declared.note.Level.TheVariants.{Error, Warning};
 ghost use Rattle.rst_tree.specs.declared.node.Node.TheVariants.{Element};
-ghost use Rattle.rst_tree.specs.declared.tag.Tag.TheVariants.{Comment, Paragraph, Problematic, Section, Subtitle, SubstitutionDefinition, SystemMessage, Target, Title};
+ghost use Rattle.rst_tree.specs.declared.tag.Tag.TheVariants.{Comment, Paragraph, Problematic, Raw, Section, Subtitle, SubstitutionDefinition, SystemMessage, Target, Title};
 ghost use Rattle.rst_tree.specs.Forest.{bare};
 ghost use Rattle.rst_transform_names.specs.Trees.{element, lists, paragraph, text, IsPrintedIn};
 ghost use Rattle.rst_transform_work.specs.Lists.{named};
@@ -41,8 +41,8 @@ pub fn passed_on()
 /// What may come before the lone section of a document, and what a title is (Markup Specification, 'Document Title').
 pub fn before_a_section()
     ensures allowed { map may_precede (element Comment [] [] ∷ element Target [] [] ∷ element SubstitutionDefinition [] []
-        ∷ element SystemMessage [] [] ∷ [])
-        ≡ true ∷ true ∷ true ∷ true ∷ [] }
+        ∷ element Raw [] [] ∷ element SystemMessage [] [] ∷ [])
+        ≡ true ∷ true ∷ true ∷ true ∷ true ∷ [] }
     ensures refused { map may_precede (paragraph "a" ∷ element Section [] [] ∷ element Title [] [] ∷ text "a" ∷ [])
         ≡ false ∷ false ∷ false ∷ false ∷ [] }
     ensures titles { map is_title (element Title [] [] ∷ element Subtitle [] [] ∷ paragraph "a" ∷ text "a" ∷ [])
