@@ -440,6 +440,20 @@ Instead, use the "role" directive to create a new role with an associated format
         "",
     ),
     (
+        "authors with markup",
+        ":Authors: Ann <ann@x.org>, *Bob*\n",
+        """\
+<document source="<stdin>">
+    <docinfo>
+        <authors>
+            <author>
+                Ann <ann@x.org>
+            <author>
+                Bob
+""",
+        "",
+    ),
+    (
         "markup in the name of a bibliographic field",
         ":Date *of print*: today\n:*Author* `and`_ more: Ann\n\n.. _and: x\n",
         """\

@@ -1,6 +1,6 @@
 -- The fields of a bibliography, taken in one after another.
 use Rattle.std.proofs.Common.{◌≡◌, ◌∙◌, ℕ, suc, ◌<◌, ◌≤◌, List, [], ◌∷◌, ◌++◌, length, get_or, take, drop, Option, Some, None, refl, ap, sym, drop-cons, arith}
-use Rattle.std.specs.Prelude.{Bool, slice_index_or, slice_get, unwrap_or, true, option_map}
+use Rattle.std.specs.Prelude.{slice_index_or, slice_get, unwrap_or, true, option_map}
 use Rattle.std.specs.List.{prefix_len, remove}
 use Rattle.std.proofs.lemmas.Grind.{common_steps}
 use Rattle.std.proofs.lemmas.List.{append-nil}

@@ -1,5 +1,5 @@
 -- The authors that a field names (reStructuredText Markup Specification, 'Bibliographic Fields').
-use Rattle.std.specs.Prelude.{ℕ, ◌==◌, List, [], ◌∷◌, Option, Some, None, option_map, if◌then◌else◌}
+use Rattle.std.specs.Prelude.{ℕ, Bool, ◌==◌, List, [], ◌∷◌, Option, Some, None, option_map, if◌then◌else◌}
 use Rattle.std.specs.List.{flat_map, list_any, slice_split}
 use Rattle.std.specs.Str.{chars, trim}
 use Rattle.rst_tree.specs.declared.node.Node.{Node}
@@ -7,6 +7,7 @@ use Rattle.rst_tree.specs.declared.node.Node.TheVariants.{Element, Text}
 use Rattle.rst_tree.specs.declared.tag.Tag.TheVariants.{Author, BulletList, Paragraph}
 use Rattle.rst_tree.specs.Forest.{Forest, bare, words}
 use Rattle.rst_tree.specs.Nodes.{nodes_of}
+use Rattle.rst_tree.specs.Tree.{text_all}
 use Rattle.rst_transform_docinfo.specs.Fields.{lone, lone_in, paragraph_in}
 
 -- an author with these nodes as the name
@@ -46,12 +47,13 @@ abbrev pub all_paragraphs : ℕ → List Node → Option (List Node)
 all_paragraphs line [] = Some []
 all_paragraphs line (item ∷ more) = and_author line (paragraph_in item) (all_paragraphs line more)
 
--- the authors that one paragraph or one bullet list names; none where there is neither, or it isn't in its form
-abbrev pub by_form : ℕ → Option Node → Option (List Node)
-by_form line (Some (Element Paragraph a c l)) = some_of (named_by line c (lone c))
-by_form line (Some (Element BulletList a c l)) = all_paragraphs line (nodes_of c)
-by_form line _ = None
+-- The authors that one paragraph or one bullet list names; none where there is neither, or it isn't in its form. Of a paragraph the `plain` text
+-- may be taken alone, without its markup.
+abbrev pub by_form : Bool → ℕ → Option Node → Option (List Node)
+by_form plain line (Some (Element Paragraph a c l)) = some_of (if plain then names_in line (text_all c) else named_by line c (lone c))
+by_form plain line (Some (Element BulletList a c l)) = all_paragraphs line (nodes_of c)
+by_form plain line _ = None
 
 -- the authors that a body names
-abbrev pub authors_in : ℕ → Node → Option (List Node)
-authors_in line body = by_form line (lone_in body)
+abbrev pub authors_in : Bool → ℕ → Node → Option (List Node)
+authors_in plain line body = by_form plain line (lone_in body)

@@ -1,5 +1,5 @@
 -- What the fields of a document's bibliography become (reStructuredText Markup Specification, 'Bibliographic Fields').
-use Rattle.std.specs.Prelude.{ℕ, false, List, [], ◌∷◌, ◌++◌, Option, Some, None, option_map, if◌then◌else◌, codes}
+use Rattle.std.specs.Prelude.{ℕ, Bool, false, List, [], ◌∷◌, ◌++◌, Option, Some, None, option_map, if◌then◌else◌, codes}
 use Rattle.rst_text.specs.Names.{identifier}
 use Rattle.std.specs.Str.{bytes_eq}
 use Rattle.rst_tree.specs.declared.attrs.Attr.{Attr}
@@ -64,13 +64,13 @@ nodes_under_title title [] = None
 nodes_under_title title (n ∷ ns) = Some (forest_of (title ∷ n ∷ ns))
 
 -- What a field of a row with this name becomes, if it is in its form: a simple one an element with the nodes of its one paragraph, whose lines stay as
--- they are in an address; a topic has a title before the nodes of the body.
-abbrev pub made : Row → List ℕ → Field → Option Node
-made (Simple t) name f = bibliographic_element t f.attrs f.line (paragraph_in f.body)
-made Address name f = bibliographic_element IsAddress (with_attr XmlSpace (Says (codes "preserve")) f.attrs) f.line (paragraph_in f.body)
-made Authors name f = bibliographic_element IsAuthors f.attrs f.line (option_map forest_of (authors_in f.line f.body))
-made (Topic k) name f = bibliographic_element IsTopic (with_nonempty_class name f.attrs) f.line (nodes_under_title (title_node (topic_title k) f.line) (nodes_of (nodes_in f.body)))
-made Generic name f = None
+-- they are in an address; a topic has a title before the nodes of the body. Authors may be read in the `plain` text of a paragraph.
+abbrev pub made : Bool → Row → List ℕ → Field → Option Node
+made plain (Simple t) name f = bibliographic_element t f.attrs f.line (paragraph_in f.body)
+made plain Address name f = bibliographic_element IsAddress (with_attr XmlSpace (Says (codes "preserve")) f.attrs) f.line (paragraph_in f.body)
+made plain Authors name f = bibliographic_element IsAuthors f.attrs f.line (option_map forest_of (authors_in plain f.line f.body))
+made plain (Topic k) name f = bibliographic_element IsTopic (with_nonempty_class name f.attrs) f.line (nodes_under_title (title_node (topic_title k) f.line) (nodes_of (nodes_in f.body)))
+made plain Generic name f = None
 
 -- a field of this name that stays one, with a class by the name
 abbrev pub generic_field : List ℕ → Field → Node

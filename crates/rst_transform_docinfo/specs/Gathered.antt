@@ -75,7 +75,7 @@ has_keywords _ = false
 
 -- one more field of a row, as it is read
 abbrev pub with_field_of : ℕ → Row → List ℕ → Field → Gathered → Gathered
-with_field_of first row name f g = gathered_by_form first row name f (if is_further row g then None else made row name f) (with_seen row g)
+with_field_of first row name f g = gathered_by_form first row name f (if is_further row g then None else made g.parts.unmarked row name f) (with_seen row g)
 
 -- one more field, whose name determines what it is for
 abbrev pub with_field : ℕ → Field → Gathered → Gathered

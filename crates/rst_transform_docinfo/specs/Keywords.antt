@@ -1,5 +1,5 @@
 -- Texts with the values of keywords of revision control in the keywords' place (reStructuredText Markup Specification, 'RCS Keywords').
-use Rattle.std.specs.Prelude.{ℕ, Bool, true, false, ◌&&◌, ◌||◌, ◌==◌, nat_lt, List, [], ◌∷◌, ◌++◌, ◌-◌, map, take, drop, length, slice_index, Option, Some, None, option_map, unwrap_or, if◌then◌else◌, codes, chars, encode_utf8_all}
+use Rattle.std.specs.Prelude.{ℕ, Bool, false, ◌&&◌, ◌||◌, ◌==◌, nat_lt, List, [], ◌∷◌, ◌++◌, ◌-◌, map, take, drop, length, slice_index, Option, Some, None, option_map, unwrap_or, if◌then◌else◌, codes, chars, encode_utf8_all}
 use Rattle.std.specs.Char.{is_ascii_alphabetic, is_ascii_digit, to_ascii_lowercase}
 use Rattle.std.specs.List.{join_with_byte, prefix_len, slice_split}
 use Rattle.std.specs.Option.{option_or}

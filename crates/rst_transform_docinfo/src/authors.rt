@@ -3,7 +3,7 @@ ghost use Rattle.std.specs.Prelude.{◌≡◌, ◌<◌, ◌==◌, ◌++◌, Matc
 ghost use Rattle.std.specs.List.{list_any};
 ghost use Rattle.std.specs.Str.{chars};
 ghost use Rattle.rst_tree.specs.Nodes.{nodes_of};
-ghost use Rattle.rst_transform_docinfo.specs.Authors.{all_paragraphs, author, author_named, authors_in, named_by, parted};
+ghost use Rattle.rst_transform_docinfo.specs.Authors.{all_paragraphs, author, author_named, authors_in, named_by, names_in, parted};
 ghost use Rattle.rst_transform_docinfo.specs.Fields.{lone};
 
 use crate::field::{lone, lone_in, paragraph_in};
@@ -13,15 +13,24 @@ use std::alloc::Global;
 
 /// The authors that a body names, if it is in its form: one paragraph, or one bullet list (Markup Specification, 'Bibliographic
 /// Fields').
-pub fn authors_in(alloc: Global, body: &Node, line: usize) -> Result<Option<Vec<Node>>>
-    ensures { let wanted = authors_in line body.now in IfOk result (λ found. MatchOption found (wanted ≡ None) (λ nodes. wanted ≡ Some nodes.items)) }
+///
+/// Of a paragraph only the text is read where it is asked for as `plain`, without its markup.
+pub fn authors_in(alloc: Global, plain: bool, body: &Node, line: usize) -> Result<Option<Vec<Node>>>
+    ensures { let wanted = authors_in plain line body.now in IfOk result (λ found. MatchOption found (wanted ≡ None) (λ nodes. wanted ≡ Some nodes.items)) }
 {
-    let Some(Node::Element { tag, children, .. }) = lone_in(body) else {
+    let Some(only) = lone_in(body) else {
+        return Ok(None);
+    };
+    let Node::Element { tag, children, .. } = only else {
         return Ok(None);
     };
     match tag {
         Tag::Paragraph => {
-            let nodes = named_by(alloc, children, line)?;
+            let nodes = if plain {
+                names_in(alloc, only.text_of(alloc)?.as_str(), line)?
+            } else {
+                named_by(alloc, children, line)?
+            };
             if nodes.is_empty() {
                 return Ok(None);
             }
@@ -32,21 +41,24 @@ pub fn authors_in(alloc: Global, body: &Node, line: usize) -> Result<Option<Vec<
     }
 }
 
-/// The authors that the nodes of a paragraph name: those in a text, or all of it as one author. In a text they are parted by
-/// semicolons, or by commas where there is no semicolon.
+/// The authors that the nodes of a paragraph name: those in a text, or all of it as one author.
 fn named_by(alloc: Global, paragraph: &Children, line: usize) -> Result<Vec<Node>>
     ensures { IfOk result (λ nodes. nodes.items ≡ named_by line paragraph.now (lone paragraph.now)) }
 {
     if let Some(Node::Text(text)) = lone(paragraph) {
-        let text = text.as_str();
-        if has_semicolon(text) {
-            return parted(alloc, text, ';', line);
-        }
-        return parted(alloc, text, ',', line);
+        return names_in(alloc, text.as_str(), line);
     }
     let mut nodes = Vec::new(alloc);
     nodes.push(author(alloc, copies(alloc, paragraph)?, line))?;
     Ok(nodes)
+}
+
+/// The authors that a text names. They are parted by semicolons, or by commas where there is no semicolon.
+fn names_in(alloc: Global, text: &str, line: usize) -> Result<Vec<Node>>
+    ensures { IfOk result (λ nodes. nodes.items ≡ names_in line text.now) }
+{
+    let separator = if has_semicolon(text) { ';' } else { ',' };
+    parted(alloc, text, separator, line)
 }
 
 /// The paragraphs in the items of a list as one author each, if each item contains one paragraph alone.

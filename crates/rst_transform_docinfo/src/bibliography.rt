@@ -69,9 +69,9 @@ fn bibliography_row(name: &str) -> Row
     }
 }
 
-/// What a field of a row with this name becomes, if it is in its form.
-fn made(alloc: Global, row: Row, name: &str, field: &Field) -> Result<Option<Node>>
-    ensures { IfOk result (λ node. node ≡ made row name.now field.now) }
+/// What a field of a row with this name becomes, if it is in its form. Authors may be read in the `plain` text of a paragraph.
+fn made(alloc: Global, plain: bool, row: Row, name: &str, field: &Field) -> Result<Option<Node>>
+    ensures { IfOk result (λ node. node ≡ made plain row name.now field.now) }
 {
     let mut attrs = field.attrs.copy(alloc)?;
     let (tag, nodes) = match row {
@@ -82,7 +82,7 @@ fn made(alloc: Global, row: Row, name: &str, field: &Field) -> Result<Option<Nod
             (Tag::Address, paragraph(alloc, field)?)
         }
         Row::Authors => {
-            let authors = authors_in(alloc, &field.body, field.line)?;
+            let authors = authors_in(alloc, plain, &field.body, field.line)?;
             (Tag::Authors, authors.map(|nodes| Children::of(nodes)))
         }
         Row::Topic(kind) => {
@@ -241,10 +241,11 @@ impl Bibliography {
         ensures gathered { IfOk result (λ _. so_far self.new context.new.reports.items ≡ with_field_of context.old.first_number row name.now field (so_far self.old context.old.reports.items)) }
         ensures rest { IfOk result (λ _. KeepsRest context.old context.new) }
     {
+        let plain = self.parts.unmarked;
         let made = if self.see(row) {
             None
         } else {
-            made(context.alloc, row, name, &field)?
+            made(context.alloc, plain, row, name, &field)?
         };
         match made {
             Some(node) => {

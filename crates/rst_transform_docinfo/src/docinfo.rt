@@ -106,7 +106,7 @@ fn with_bibliography(children: Children, parts: Parts, context: &mut Context) ->
 /// A bibliographic field that isn't in its form stays a field, with a WARNING as the last node in its body. Any other field
 /// stays one, too. What a field becomes has the field's ids and names, and the first of all has the list's. Under the part
 /// `keywords`, values take the place of keywords of revision control ('RCS Keywords'). Under the part `unmarked`, the first node in
-/// the name of a field says which field it is.
+/// the name of a field says which field it is, and authors are read in the text of a paragraph without its markup.
 ///
 /// Before:
 ///

@@ -100,6 +100,10 @@ pub fn authors()
         ∷ element Emphasis [] (text "B" ∷ []) ∷ []) ∷ []) ∷ []) ∷ [])) (knowing [])).0
         ("<document>" ∷ "    <docinfo>" ∷ "        <authors>" ∷ "            <author>" ∷ "                A; " ∷ "                <emphasis>"
         ∷ "                    B" ∷ []) }
+    ensures without_markup { Shows (with_docinfo all_parts (plain_document (element FieldList [] (field "Authors" (element Paragraph [] (text "A; "
+        ∷ element Emphasis [] (text "B" ∷ []) ∷ []) ∷ []) ∷ []) ∷ [])) (knowing [])).0
+        ("<document>" ∷ "    <docinfo>" ∷ "        <authors>" ∷ "            <author>" ∷ "                A" ∷ "            <author>"
+        ∷ "                B" ∷ []) }
     ensures empty_item { map (λ r. r.text) (with_docinfo no_parts (plain_document (element FieldList [] (field "authors" (element BulletList []
         (element ListItem [] (paragraph "A" ∷ []) ∷ element ListItem [] [] ∷ []) ∷ []) ∷ []) ∷ [])) (knowing [])).1.reports
         ≡ codes "Bibliographic field \"authors\" is not in its form." ∷ [] }

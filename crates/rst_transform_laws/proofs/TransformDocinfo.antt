@@ -17,12 +17,12 @@ use Rattle.rst_tree.specs.declared.tag.Tag.TheVariants.{Authors as IsAuthors, Bu
 use Rattle.rst_tree.specs.Forest.{Forest, bare, element, words, height}
 use Rattle.rst_tree.specs.Nodes.{forest_of, nodes_of}
 use Rattle.rst_tree.specs.Paths.{with_child}
-use Rattle.rst_tree.specs.Tree.{text_in}
+use Rattle.rst_tree.specs.Tree.{text_all}
 use Rattle.rst_transform_work.specs.declared.document.Document.{Document}
 use Rattle.rst_transform_work.specs.declared.report.Report.{Report}
 use Rattle.rst_transform_work.specs.Known.{Known}
 use Rattle.rst_transform_work.specs.Reports.{report_node}
-use Rattle.rst_transform_docinfo.specs.Authors.{all_paragraphs, and_author, author_named, by_form, named_by, parted, some_of}
+use Rattle.rst_transform_docinfo.specs.Authors.{all_paragraphs, and_author, author_named, by_form, named_by, names_in, parted, some_of}
 use Rattle.rst_transform_docinfo.specs.declared.bibliography.Row.{Row}
 use Rattle.rst_transform_docinfo.specs.declared.bibliography.Row.TheVariants.{Simple, Address, Authors as AreAuthors, Topic, Generic}
 use Rattle.rst_transform_docinfo.specs.declared.bibliography.TopicKind.TheVariants.{Dedication, Abstract}
@@ -63,10 +63,13 @@ module _ (P : ℕ → Bool) (T : List ℕ → Type 0) (s : Suited P T) where
   parted_held m line [] h = tt
   parted_held m line (piece ∷ more) h = all_append _ (author_named line (trim piece)) _ (author_held m line (trim piece) (trimmed_has P T s piece h.0)) (parted_held m line more h.1)
 
-  named_held : (m line : ℕ) (c : Forest) (o : Option Node) → ForestHeld T m c → IfSome o (Held T m) → AllHeld T (m + 2) (named_by line c o)
-  named_held m line c (Some (Text text)) h g =
-      let by = λ (separator : ℕ) (low : separator ≤ 127). parted_held m line (slice_split (λ x. x == separator) text) (s.split separator text low g.1) in
+  names_held : (m line : ℕ) (text : List ℕ) → T text → AllHeld T (m + 2) (names_in line text)
+  names_held m line text h =
+      let by = λ (separator : ℕ) (low : separator ≤ 127). parted_held m line (slice_split (λ x. x == separator) text) (s.split separator text low h) in
       cond_both (list_any (λ x. x == 59) (chars text)) (parted line 59 text) (parted line 44 text) (AllHeld T (m + 2)) (λ _. by 59 (omega arith)) (λ _. by 44 (omega arith))
+
+  named_held : (m line : ℕ) (c : Forest) (o : Option Node) → ForestHeld T m c → IfSome o (Held T m) → AllHeld T (m + 2) (named_by line c o)
+  named_held m line c (Some (Text text)) h g = names_held m line text g.1
   named_held m line c _ h g = ((omega (arith, h.0), (tt, h.1)), tt)
 
   some_held : (m : ℕ) (ns : List Node) → AllHeld T m ns → IfSome (some_of ns) (AllHeld T m)
@@ -81,10 +84,13 @@ module _ (P : ℕ → Bool) (T : List ℕ → Type 0) (s : Suited P T) where
   items_held m line [] h = tt
   items_held m line (n ∷ ns) h = item_held m line (paragraph_in n) (all_paragraphs line ns) (paragraph_held m (lone_in n) (lone_held m n h.0)) (items_held m line ns h.1)
 
-  authors_held : (m line : ℕ) (o : Option Node) → IfSome o (Held T m) → IfSome (by_form line o) (AllHeld T (m + 2))
-  authors_held m line (Some (Element Paragraph a c l)) h = some_held (m + 2) _ (named_held m line c (lone c) (omega (arith, h.0), h.1.1) (lone_held m (Element Paragraph a c l) h))
-  authors_held m line (Some (Element BulletList a c l)) h = items_held m line (nodes_of c) (held_nodes T m c (omega (arith, h.0), h.1.1))
-  authors_held m line _ h = tt
+  authors_held : (m : ℕ) (plain : Bool) (line : ℕ) (o : Option Node) → IfSome o (Held T m) → IfSome (by_form plain line o) (AllHeld T (m + 2))
+  authors_held m plain line (Some (Element Paragraph a c l)) h =
+      let named = named_held m line c (lone c) (omega (arith, h.0), h.1.1) (lone_held m (Element Paragraph a c l) h) in
+      let text = names_held m line (text_all c) (text_in_has T P s (Element Paragraph a c l) h.1) in
+      some_held (m + 2) _ (cond_both plain (names_in line (text_all c)) (named_by line c (lone c)) (AllHeld T (m + 2)) (λ _. text) (λ _. named))
+  authors_held m plain line (Some (Element BulletList a c l)) h = items_held m line (nodes_of c) (held_nodes T m c (omega (arith, h.0), h.1.1))
+  authors_held m plain line _ h = tt
 
   nodes_in_held : (m : ℕ) (n : Node) → Held T m n → ForestHeld T m (nodes_in n)
   nodes_in_held m (Element t a c l) h = (omega (arith, h.0), h.1.1)
@@ -177,13 +183,13 @@ module _ (P : ℕ → Bool) (T : List ℕ → Type 0) (s : Suited P T) where
       abbrev RowHeld : Row → Type 0
       RowHeld row =
           ((n : Node) → Held T (k + 3) n → GatheredHeld (gathered_by_form first row nm f (Some n) (with_seen row g))) × GatheredHeld (gathered_by_form first row nm f None (with_seen row g))
-          × IfSome (made row nm f) (Held T (k + 3))
+          × IfSome (made g.parts.unmarked row nm f) (Held T (k + 3))
 
       row_held : (row : Row) → RowHeld row
       row_held (Simple t) = (made_held, fault, simple t f.attrs attrs)
       row_held Address = (made_held, fault, simple _ _ (with_attr_has T XmlSpace (Says (codes "preserve")) f.attrs tt attrs))
       row_held AreAuthors =
-          (made_held, fault, made_of IsAuthors f.attrs attrs _ (if_made (AllHeld T (k + 2)) (ForestHeld T (k + 2)) forest_of (held_forest T (k + 2)) _ (authors_held k f.line (lone_in f.body) (lone_held k f.body (omega (arith, body.0), body.1)))))
+          (made_held, fault, made_of IsAuthors f.attrs attrs _ (if_made (AllHeld T (k + 2)) (ForestHeld T (k + 2)) forest_of (held_forest T (k + 2)) _ (authors_held k g.parts.unmarked f.line (lone_in f.body) (lone_held k f.body (omega (arith, body.0), body.1)))))
       row_held (Topic Dedication) = ((λ n h. (w.0, (h, tt), w.2, w.3)), fault, topic _ (fixed_has P T s (codes "Dedication") refl))
       row_held (Topic Abstract) = ((λ n h. (w.0, w.1, (h, tt), w.3)), fault, topic _ (fixed_has P T s (codes "Abstract") refl))
       row_held Generic = (made_held, kept f.body (omega (arith, body.0), body.1), tt)
@@ -194,7 +200,7 @@ module _ (P : ℕ → Bool) (T : List ℕ → Type 0) (s : Suited P T) where
         let row : Row = bibliography_row nm in
         let read : Field = field_read (g.parts.keywords && has_keywords row) f in
         let held = row_held g read nm (name_in_has P T s _ (name_text_has (k - 1) g.parts.unmarked f.name name)) name (read_held (k - 1) (g.parts.keywords && has_keywords row) f.body body) attrs w row in
-        by_held (λ o. gathered_by_form first row nm read o (with_seen row g)) (made row nm read) (is_further row g) held.0 held.1 held.2
+        by_held (λ o. gathered_by_form first row nm read o (with_seen row g)) (made g.parts.unmarked row nm read) (is_further row g) held.0 held.1 held.2
 
     parts_held : (n : Node) (a : List Attr) (ns : List Node) (l : ℕ) (g : Gathered) → Held T k n → AttrsHave T a → AllHeld T (k - 1) ns → GatheredHeld g → GatheredHeld (if_field first n (docinfo_field a ns l) g)
     parts_held n a (name ∷ body ∷ []) l g h attrs low w = field_held g _ low.0 low.1.0 attrs w

@@ -12,5 +12,6 @@ returns c = record {
   field_of_none = refl;
   of_a_list = refl;
   of_markup = refl;
+  without_markup = refl;
   empty_item = refl;
 }
