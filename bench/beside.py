@@ -92,6 +92,8 @@ class Maker:
         argument = usual.get(name, self.of("a.txt", "")) if self.is_so(0.85) else self.of("", "a", self.text())
         lines = [f".. {self.cased(name)}{self.of('::', '::', '::', ' ::')} {argument}".rstrip()] + self.of([], [], [], [], [""])
         lines += self.indented(self.of([], self.options()), "   ") + self.of([], [""], [""])
+        if name == "include" and self.is_so(0.7):
+            return lines
         return lines + self.indented(self.of([], *[self.plain() for _ in range(3)], *[self.block() for _ in range(self.is_so(0.3))]), "   ")
 
     def fields(self) -> list[str]:
