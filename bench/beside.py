@@ -6,8 +6,8 @@
 A document has one to three constructs of the wider profile (docs/profile/wider.md), each in a place where blocks or a text may stand. The same
 seed and number always make the same document. PROGRAM is by default dist/rst-tree. Docutils is that of the Python that runs this, without
 files, highlighting and the directives that the wider profile leaves out. Trees that differ are compared again without the differences that
-docs/DOCUTILS.md lists, taken out of both one after another. It prints how many trees are the same, how many without which differences, and the
-first of all others. The status is 1 if there are others. It takes some 15 CPU milliseconds for each document.
+docs/DOCUTILS.md lists, each taken out of both, and then all. It prints how many trees are the same, how many without which difference, and the
+first of the others. The status is 1 if there are others. It takes some 15 CPU milliseconds for each document.
 """
 
 import argparse
@@ -92,6 +92,8 @@ class Maker:
         argument = usual.get(name, self.of("a.txt", "")) if self.is_so(0.85) else self.of("", "a", self.text())
         lines = [f".. {self.cased(name)}{self.of('::', '::', '::', ' ::')} {argument}".rstrip()] + self.of([], [], [], [], [""])
         lines += self.indented(self.of([], self.options()), "   ") + self.of([], [""], [""])
+        if name == "include" and self.is_so(0.7):
+            return lines
         return lines + self.indented(self.of([], *[self.plain() for _ in range(3)], *[self.block() for _ in range(self.is_so(0.3))]), "   ")
 
     def fields(self) -> list[str]:
@@ -208,7 +210,7 @@ def without(tree: str, *names: str) -> str:
 
 
 def reason(ours: str, theirs: str) -> str:
-    """Which listed differences two trees have; "others" if there are more."""
+    """Which listed differences two trees have; "others" if there are more. Where a substitution definition has a fault, messages differ in many ways."""
     if ours == theirs:
         return "the same"
     for name in LISTED:
@@ -217,7 +219,7 @@ def reason(ours: str, theirs: str) -> str:
     if without(ours, *LISTED) == without(theirs, *LISTED):
         return "several of these"
     faulty = re.search("ubstitution definition|Undefined substitution|Invalid context", ours + theirs)
-    return "substitution definitions with faults" if faulty else "others"
+    return "not looked at: faults of substitution definitions" if faulty else "others"
 
 
 class Both:

@@ -604,6 +604,21 @@ Instead, use the "role" directive to create a new role with an associated format
         "",
     ),
     (
+        "raw data before a title",
+        ".. raw:: html\n\n   <hr>\n\nA\n=\n\n:Date: b\n",
+        """\
+<document ids="a" names="a" source="<stdin>" title="A">
+    <title>
+        A
+    <docinfo>
+        <date>
+            b
+    <raw format="html" xml:space="preserve">
+        <hr>
+""",
+        "",
+    ),
+    (
         "authors with markup",
         ":Authors: Ann <ann@x.org>, *Bob*\n",
         """\

@@ -1,7 +1,7 @@
 -- Where it makes no difference which parts of the wider profile are asked for.
 use Rattle.std.proofs.Common.{◌≡◌, ◌∙◌, ℕ, Bool, true, false, ◌&&◌, List, length, refl, ap}
 use Rattle.std.specs.Option.{IfSome}
-use Rattle.std.specs.Prelude.{encode_utf8_all, if◌then◌else◌, nat_lt, ◌||◌, Option, Some, None, Result, Ok, Err}
+use Rattle.std.specs.Prelude.{encode_utf8_all, if◌then◌else◌, nat_lt, Option, Some, None, Err}
 use Rattle.std.proofs.lemmas.Bool.{or_parts}
 use Rattle.rst_inline_scan.specs.Mail.{holds_at_sign}
 use Rattle.rst_settings.specs.Parts.{no_parts}

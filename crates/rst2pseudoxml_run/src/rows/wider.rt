@@ -92,7 +92,7 @@ pub fn roles_that_begin_lines()
         ∷ "        <paragraph>" ∷ "            Unknown interpreted text role \"a\"." ∷ [])
         ("x:1: (ERROR/3) Unknown interpreted text role \"a\"." ∷ []) 0 }
     ensures escaped_colon { Reports wide (":a\\:`b`: d" ∷ [])
-        ("<document source=\"x\">" ∷ "    <docinfo>" ∷ "        <field classes=\"a-b\">" ∷ "            <field_name>" ∷ "                a:"
+        ("<document source=\"x\">" ∷ "    <docinfo>" ∷ "        <field classes=\"a\">" ∷ "            <field_name>" ∷ "                a:"
         ∷ "                <title_reference>" ∷ "                    b" ∷ "            <field_body>" ∷ "                <paragraph>"
         ∷ "                    d" ∷ []) [] 0 }
 {}

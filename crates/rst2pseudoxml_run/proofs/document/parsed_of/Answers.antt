@@ -1,9 +1,8 @@
 use Rattle.std.proofs.Common.{◌≡◌, ◌∙◌, Err, Some, sym, ap}
 use Rattle.std.specs.Str.{chars}
-use Rattle.rst_settings.specs.declared.Settings.{Settings}
 use Rattle.rst_text.specs.Text.{text_of}
 use Rattle.rst2pseudoxml_run.specs.Reading.{held}
-use Rattle.rst2pseudoxml_run.proofs.DocumentLemmas.{read_long, read_short}
+use Rattle.rst2pseudoxml_run.proofs.DocumentLemmas.{read_short}
 use Rattle.rst2pseudoxml_run.proofs.document.parsed_of.Goals as goal
 
 pub returns-in-Ok-parse : goal.returns-in-Ok-parse
@@ -19,4 +18,5 @@ returns-in-Err-TooDeep c =
     let is : text_of c.args.bytes.items ≡ Some (chars c.in-Ok.text.now) = sym (ap text_of c.as_slice.ensures.value) ∙ c.in-Ok.ensures in
     let holds : c.held_in-held.result ≡ held settings (text_of c.args.bytes.items) = c.held_in-held.ensures ∙ sym (ap (held settings) is) in
     let deep = c.in-Err-TooDeep.ensures.tree settings in
-    read_short settings c.args.bytes.items _ c.held_in-held.result c.in-Ok-within.lines (Err c.in-Err-TooDeep.line) is holds c.in-Ok-within.ensures.0 c.in-Ok-within.ensures.1 (rw c.in-Err-TooDeep.field-0-is at deep)
+    rw c.in-Err-TooDeep.field-0-is
+    (read_short settings c.args.bytes.items _ c.held_in-held.result c.in-Ok-within.lines (Err c.in-Err-TooDeep.line) is holds c.in-Ok-within.ensures.0 c.in-Ok-within.ensures.1 (rw c.in-Err-TooDeep.field-0-is at deep))
