@@ -25,7 +25,8 @@ use super::closed::closed_nodes;
 use super::explicit::put;
 use super::single::is_single_paragraph;
 use rst_block_nodes::{
-    append, directive_element, figure, filled, image, message, subtitle, with_text, with_title_class,
+    append, directive_element, figure, filled, image, message, subtitle, with_text,
+    with_title_class,
 };
 use rst_block_state::{
     OpenBlock, Pass, Result, Step, Waits, alone, excerpt, first_line_or, inside, joined, number_at,
