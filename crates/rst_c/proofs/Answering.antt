@@ -62,7 +62,7 @@ module _ (settings : Settings) (source bytes : List ℕ) where
   left_wanted : wanted_of (result_of PseudoXml (profile_of settings) settings source bytes) ≡ made_by (shows settings source bytes) (left_of settings bytes)
   left_wanted =
       elim (nat_lt 16777216 (length bytes)) as (λ b. wanted_of (if b then Err TooLong else result_of_text PseudoXml (profile_of settings) (held settings (text_of bytes)) source bytes (text_of bytes))
-      ≡ made_by (shows settings source bytes) (if b then Err TooLong else left_of_text settings bytes (text_of bytes))) [ true ↦ refl | false ↦ text_wanted (held settings (text_of bytes)) source bytes (text_of bytes) ]
+      ≡ made_by (shows settings source bytes) (if b then Err TooLong else left_of_text (held settings (text_of bytes)) bytes (text_of bytes))) [ true ↦ refl | false ↦ text_wanted (held settings (text_of bytes)) source bytes (text_of bytes) ]
 
   -- what is wanted of a print, where the source is UTF-8 and where it isn't
   wanted_of_text : IsUtf8 source → print_wanted (Some settings) source bytes ≡ made_by (shows settings source bytes) (left_of settings bytes)
