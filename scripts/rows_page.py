@@ -31,7 +31,7 @@ SECTIONS = {
         Strong Emphasis; Interpreted Text; Inline Literals; Hyperlink References; Embedded URIs and Aliases; Inline Internal Targets;
         Footnote References; Citation References; Substitution References; Standalone Hyperlinks; Units; Length Units; Percentage Units;
         Error Handling""",
-    "Directives": """Specific Admonitions; Generic Admonition; Image; Figure; Topic; Sidebar; Epigraph; Highlights; Pull-Quote; Code; Parsed Literal Block; Rubric; Compound Paragraph; Container;
+    "Directives": """Specific Admonitions; Generic Admonition; Image; Figure; Topic; Sidebar; Epigraph; Highlights; Pull-Quote; Code; Parsed Literal Block; Line Block; Math; Rubric; Compound Paragraph; Container;
         Replacement Text; Including an External Document Fragment; Raw Data Pass-Through; Common Options; Identifier Normalization""",
     "Roles": "Standard Roles",
     "Document Tree": "Introduction; Element Reference; Attribute Reference",
@@ -45,7 +45,7 @@ SECTIONS = {
 ORDER = [(document, section) for document, sections in SECTIONS.items() for section in re.split(r";\s+", sections)]
 FUNCTION = re.compile(r"((?:^///.*\n)+)pub fn (\w+)\(\)\n((?:    .*\n)+)\{\}", re.M)
 CLAUSE = re.compile(r"^    ensures (\w+) \{ (.*?) \}(?=\n    ensures|\n*\Z)", re.M | re.S)
-SECTION = re.compile(r"\(([A-Z][\w ]+), '([^']+)'\)")
+SECTION = re.compile(r"\(([A-Z][\w ]+), '([^']+)'(?:, '[^']+')*\)")
 STRINGS = re.compile(r'"((?:[^"\\]|\\.)*)"')
 LIST = r"(\[\]|\(.*?∷ \[\]\))"
 EXACT = r'(\(codes "(?:[^"\\]|\\.)*"\))'
