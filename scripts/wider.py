@@ -1,7 +1,7 @@
 """Worked examples of the wider profile (docs/profile/wider.md), for the tests of the library and of the Python package.
 
-The trees and messages are those of Docutils 0.19 with `--syntax-highlight=none --no-file-insertion --halt=5`; but its message on a file that isn't
-read has no source text on standard error. The texts of SAME are read alike by both profiles.
+The trees and messages are those of Docutils 0.19 with `--syntax-highlight=none --no-file-insertion --halt=5`; but its messages on wrong
+directives, and on a file that isn't read, have no source text on standard error. The texts of SAME are read alike by both profiles.
 """
 
 # A name, a text, and its tree and messages under the wider profile; under the other one they differ.
@@ -461,7 +461,16 @@ Instead, use the "role" directive to create a new role with an associated format
 """,
         """\
 <stdin>:1: (ERROR/3) The "Sidebar" directive may not be used within topics or body elements.
+
+.. Sidebar:: a
+
+   b
 <stdin>:5: (ERROR/3) The "subtitle" option may not be used without a title.
+
+.. sidebar::
+   :subtitle: c
+
+   d
 """,
     ),
     (
@@ -512,6 +521,8 @@ Instead, use the "role" directive to create a new role with an associated format
         """\
 <stdin>:5: (WARNING/2) Inline interpreted text or phrase reference start-string without end-string.
 <stdin>:19: (ERROR/3) Content block expected for the "epigraph" directive; none found.
+
+.. epigraph::
 """,
     ),
     (

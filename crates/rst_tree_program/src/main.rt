@@ -50,9 +50,11 @@ fn answer(rt: &HostRuntime, error: &Error) -> Result<Stop, AllocError> {
     }
 }
 
-/// What is wrong, which is the first paragraph of the text, and what is allowed, which is on its second line.
+/// What is wrong, which is the first paragraph of the text, and what is allowed, which is on its second line. A word that only says that
+/// it is an error is left out.
 fn one_line(alloc: Global, text: &str) -> Result<String, AllocError> {
     let mut line = String::new(alloc);
+    let text = text.strip_prefix("error: ").unwrap_or(text);
     for part in text.split('\n') {
         if part.is_empty() {
             break;
