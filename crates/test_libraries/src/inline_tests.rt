@@ -1,6 +1,7 @@
 //! Nodes and messages of texts. The answers were worked out from the public Markup Specification, not by this crate.
 use super::tree_tests::printed;
 use rst_inline::{Pieces, inline};
+use rst_settings::Parts;
 use rst_tree::{Attrs, Children, Node, Tag};
 use std::alloc::Global;
 use std::test::Fail;
@@ -65,7 +66,7 @@ ERROR 7: Unknown interpreted text role \"x\".
 
 /// The nodes and the messages of a text on line 7.
 fn nodes_and_messages(alloc: Global, text: &str) -> Result<String, Fail> {
-    let Pieces { nodes, notes } = inline(alloc, false, text, 7)?;
+    let Pieces { nodes, notes } = inline(alloc, Parts::NONE, text, 7)?;
     let paragraph = Node::Element {
         tag: Tag::Paragraph,
         attrs: Attrs::new(alloc),
