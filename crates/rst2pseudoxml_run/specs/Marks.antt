@@ -48,4 +48,5 @@ parts_in asked text = record {
   directives = asked.directives && holds_wider_directive text;
   unmarked = asked.unmarked;
   keywords = asked.keywords && holds_dollar_sign text;
+  handed = asked.handed;
 }

@@ -22,6 +22,7 @@ pub fn parts_in(asked: Parts, text: &str) -> Parts
         directives: asked.directives && holds_wider_directive(text),
         unmarked: asked.unmarked,
         keywords: asked.keywords && holds_dollar_sign(text),
+        handed: asked.handed,
     }
 }
 

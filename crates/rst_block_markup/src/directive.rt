@@ -1,7 +1,7 @@
 //! Directives as blocks (Markup Specification, 'Directives').
-ghost use Rattle.std.specs.Prelude.{◌≡◌, ℕ, ◌+◌, ◌-◌, ◌*◌, ◌<◌, ◌≤◌, ◌==◌, length, slice_range, Some, Ok, IfOk};
+ghost use Rattle.std.specs.Prelude.{◌≡◌, ℕ, ◌+◌, ◌-◌, ◌*◌, ◌<◌, ◌≤◌, ◌==◌, drop, length, slice_range, Some, Ok, IfOk};
 ghost use Rattle.std.specs.Str.{chars};
-ghost use Rattle.rst_text.specs.Block.{Block};
+ghost use Rattle.rst_text.specs.Block.{Block, first_text};
 ghost use Rattle.rst_text.specs.Looked.{Looked, capped};
 ghost use Rattle.rst_text.specs.ViewBlock.{block_of};
 ghost use Rattle.rst_markup_directives.specs.Argument as given;
@@ -15,7 +15,7 @@ ghost use Rattle.rst_markup_directives.specs.declared.found.Place.{Place};
 ghost use Rattle.rst_markup_blocks.specs.Parts.{IsBlock, IsCall};
 ghost use Rattle.rst_block_state.specs.machine.OpenBlocks.{Gives, IsMoved};
 ghost use Rattle.rst_block_state.specs.Paragraphs.{is_single_paragraph};
-ghost use Rattle.rst_block_state.specs.Texts.{lines_in};
+ghost use Rattle.rst_block_state.specs.Texts.{excerpt, lines_in};
 ghost use Rattle.rst_block_state.specs.declared.step.Step.TheVariants.{Open};
 ghost use Rattle.rst_block_state.specs.declared.texts.Pass.{Pass};
 ghost use Rattle.rst_block_state.specs.looks.Ledger.{unread_at};
@@ -25,7 +25,7 @@ use super::closed::closed_nodes;
 use super::explicit::put;
 use super::single::is_single_paragraph;
 use rst_block_nodes::{
-    append, directive_element, figure, filled, image, message, subtitle, with_text,
+    append, directive_element, figure, filled, handed_directive, image, message, subtitle, with_text,
     with_title_class,
 };
 use rst_block_state::{
@@ -57,6 +57,9 @@ pub(crate) fn directive_at(
     ensures looked { let lines = invocation.now.block.to - invocation.now.block.from in
         IfOk result (λ _. Looked 1 (8 + 2 * lines) pass.old.looks pass.new.looks) }
 {
+    if is_handed(view, at, invocation, pass)? {
+        return Ok(Directive::Handed);
+    }
     let kind = called(pass.alloc, view, at, invocation, &mut pass.looks)?;
     let block = invocation.block;
     let paragraph = is_paragraph(kind, view, block, &mut pass.looks);
@@ -70,6 +73,26 @@ pub(crate) fn directive_at(
         paragraph,
         &mut pass.looks,
     )?)
+}
+
+/// Whether a directive is handed back. Nothing is read where no name is.
+fn is_handed(
+    view: &View<'_>,
+    at: usize,
+    invocation: &Invocation,
+    pass: &mut Pass,
+) -> Result<bool>
+    requires call { IsCall (block_of view.now) at invocation.now }
+    ensures handed { Gives (λ handed. handed ≡ meaning.is_handed_at (block_of view.now) at invocation.now) result }
+    ensures numbers { pass.new.numbers ≡ pass.old.numbers }
+    ensures looked { IfOk result (λ _. Looked 0 1 pass.old.looks pass.new.looks) }
+{
+    let parts = parts_at(view, at);
+    if parts.handed.is_none() {
+        return Ok(false);
+    }
+    let name = excerpt(pass.alloc, view.line(at, &mut pass.looks), invocation.name)?;
+    Ok(parts.hands_directive(name.as_str()))
 }
 
 /// Whether the block of a replacement text is a single paragraph, which counts for no other directive.
@@ -105,6 +128,10 @@ pub(crate) fn directive_block(
     let at = level.at;
     let end = invocation.block.to;
     match directive_at(view, at, invocation, place_in(level.titles()), pass)? {
+        Directive::Handed => {
+            let node = handed_at(view, at, end, invocation, pass)?;
+            put(level, node, end)
+        }
         Directive::Wrong { fault, .. } => {
             let name = excerpt(pass.alloc, view.line(at, &mut pass.looks), invocation.name)?;
             let name = name.as_str();
@@ -127,6 +154,33 @@ pub(crate) fn directive_block(
             directive_nodes(view, level, &found, pass)
         }
     }
+}
+
+/// A directive that is handed back, with its lines.
+pub(crate) fn handed_at(
+    view: &View<'_>,
+    at: usize,
+    end: usize,
+    invocation: &Invocation,
+    pass: &mut Pass,
+) -> Result<Node>
+    requires call { IsCall (block_of view.now) at invocation.now }
+    ensures node { let B = block_of view.now in
+        let name = excerpt (first_text (drop at B)) invocation.now.name in
+        Gives (λ node. node ≡ meaning.handed_directive B (record { start = at; stop = end }) name) result }
+    ensures numbers { pass.new.numbers ≡ pass.old.numbers }
+    ensures most { pass.new.looks ≤ pass.old.looks + 1 + (end - at) }
+    ensures each { IfOk result (λ _. capped (pass.old.looks + length (slice_range (block_of view.now) at end)) ≤ pass.new.looks) }
+{
+    let alloc = pass.alloc;
+    let name = excerpt(alloc, view.line(at, &mut pass.looks), invocation.name)?;
+    let lines = source(alloc, view, at, end, &mut pass.looks)?;
+    Ok(handed_directive(
+        alloc,
+        name.as_str(),
+        lines.as_str(),
+        number_at(view, at),
+    )?)
 }
 
 /// Where a directive of a block is, by whether titles are allowed there.

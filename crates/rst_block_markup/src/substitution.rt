@@ -16,7 +16,7 @@ ghost use Rattle.rst_block_state.specs.looks.Ledger.{unread_at};
 ghost use Rattle.rst_block_state.specs.Inside.{content_blocks, directive_blocks, directive_content, substitution_blocks};
 
 use super::closed::closed_element;
-use super::directive::{Found, directive_at, wrong_directive};
+use super::directive::{Found, directive_at, handed_at, wrong_directive};
 use super::explicit::put;
 use rst_block_nodes::{
     filled, may_replace, message, substitution_definition as definition, substitution_name,
@@ -101,6 +101,11 @@ fn definition_or_error(
     let at = level.at;
     let line = number_at(view, at);
     match directive_at(view, at, invocation, Place::Substitution, pass)? {
+        Directive::Handed => {
+            let node = handed_at(view, at, end, invocation, pass)?;
+            let definition = definition(pass.alloc, name.as_str(), line)?;
+            put(level, filled(definition, alone(pass.alloc, node)?)?, end)
+        }
         Directive::Wrong { fault, .. } => {
             let written = excerpt(pass.alloc, view.line(at, &mut pass.looks), invocation.name)?;
             // Where the definition may not contain the directive, the message has the definition's name.

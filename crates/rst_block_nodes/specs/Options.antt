@@ -2,6 +2,8 @@
 -- Literal Block', 'Raw Data Pass-Through', 'Container').
 use Rattle.std.specs.Prelude.{ℕ, Bool, if◌then◌else◌, List, [], ◌∷◌, ◌++◌, map, codes, Option, Some, None, option_map, encode_utf8_all}
 use Rattle.std.specs.Option.{option_or, option_to_list}
+use Rattle.std.specs.Str.{chars}
+use Rattle.rst_inline.specs.Elements.{handed_node}
 use Rattle.rst_text.specs.Characters.{Text}
 use Rattle.rst_text.specs.Names.{name_of, normalized_white}
 use Rattle.rst_tree.specs.Attributes.{attr, value_of, with_attr, without_key}
@@ -106,6 +108,10 @@ figure_element choices line = Element FigureTag (with_choices Figure choices [])
 -- the element of a directive with a body, still without content
 abbrev pub directive_element : Tag → ArgumentMeaning → List OptionSetting → ℕ → Node
 directive_element element given choices line = Element element (given_attrs given (body_attrs choices [])) bare line
+
+-- a directive that is handed back, by its name and its lines
+abbrev pub handed_directive_node : List ℕ → List ℕ → ℕ → Node
+handed_directive_node name source line = handed_node (codes "directive") name (chars source) line
 
 -- ---- subtitles
 

@@ -14,7 +14,7 @@ use Rattle.rst_tree.specs.declared.key.Key.TheVariants.{Anonymous, OwnName, Refn
 use Rattle.rst_tree.specs.declared.node.Node.{Node}
 use Rattle.rst_tree.specs.declared.node.Node.TheVariants.{Element, Text as Words}
 use Rattle.rst_tree.specs.declared.tag.Tag.{Tag}
-use Rattle.rst_tree.specs.declared.tag.Tag.TheVariants.{Abbreviation, Acronym, Emphasis, Strong, Literal, Math, Subscript, Superscript, TitleReference, SubstitutionReference, Reference, Target}
+use Rattle.rst_tree.specs.declared.tag.Tag.TheVariants.{Abbreviation, Acronym, Emphasis, Handed, Strong, Literal, Math, Subscript, Superscript, TitleReference, SubstitutionReference, Reference, Target}
 use Rattle.rst_tree_index.specs.Kinds.{is_substitution_reference_node}
 use Rattle.rst_markup_directives.specs.Target.{Destination, named, located, target_value}
 use Rattle.rst_inline.specs.Mail.{mailed}
@@ -44,6 +44,7 @@ abbrev pub is_plain_role : Tag → Bool
 is_plain_role Abbreviation = true
 is_plain_role Acronym = true
 is_plain_role Emphasis = true
+is_plain_role Handed = true
 is_plain_role Strong = true
 is_plain_role Literal = true
 is_plain_role Math = true

@@ -3,7 +3,7 @@ ghost use Rattle.std.specs.Prelude.{◌≡◌, option_map, chars, Ok, IfOk};
 ghost use Rattle.rst_block_nodes.specs.Admonitions.{title_class, with_title_class};
 ghost use Rattle.rst_markup_directives.specs.Argument.{given_in};
 ghost use Rattle.rst_markup_directives.specs.Options.{choices_in};
-ghost use Rattle.rst_block_nodes.specs.Options.{code_attrs, directive_element, given_attrs, literal_element, subtitle_chosen, with_options};
+ghost use Rattle.rst_block_nodes.specs.Options.{code_attrs, directive_element, given_attrs, handed_directive_node, literal_element, subtitle_chosen, with_options};
 ghost use Rattle.rst_block_nodes.specs.Readings.{subtitled};
 
 use super::nodes::{element_of, preserving, text_nodes};
@@ -12,6 +12,7 @@ use super::settings::{Holder, set_options};
 use super::terms::Heads;
 use super::texted::with_text;
 use super::values::{list_of_texts, text_value};
+use rst_inline::handed;
 use rst_markup_directives::{Argument, OptionName, OptionValue, Setting};
 use rst_settings::Parts;
 use rst_text::id_of;
@@ -35,6 +36,15 @@ pub fn directive_element(
     set_options(alloc, &mut attrs, Holder::Body, options)?;
     set_argument(alloc, &mut attrs, argument)?;
     Ok(element_of(element, attrs, Vec::new(alloc), line))
+}
+
+/// A directive that is handed back, by its name and its lines.
+///
+/// The only refusal is [`AllocError`].
+pub fn handed_directive(alloc: Global, name: &str, source: &str, line: usize) -> Result<Node>
+    ensures { IfOk result (λ node. node ≡ handed_directive_node name.now source.now line) }
+{
+    handed(alloc, "directive", name, source, line)
 }
 
 /// An element of the directive `admonition` with the class that its title gives, unless its options gave it some: the

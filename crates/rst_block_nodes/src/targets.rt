@@ -116,6 +116,7 @@ fn may_stand(node: &Node) -> bool
             Tag::Abbreviation
                 | Tag::Acronym
                 | Tag::Emphasis
+                | Tag::Handed
                 | Tag::Strong
                 | Tag::Literal
                 | Tag::Math

@@ -2,6 +2,7 @@
 -- 'Admonitions', 'Images', 'Topic', 'Sidebar', 'Epigraph', 'Highlights', 'Pull-Quote', 'Code', 'Rubric', 'Parsed Literal Block', 'Line Block', 'Math',
 -- 'Raw Data Pass-Through', 'Compound Paragraph', 'Container', 'Replacement Text').
 use Rattle.std.specs.Prelude.{ℕ, Bool, true, false, List, [], ◌∷◌, ◌++◌, map, drop, codes, Option, Some, None, encode_utf8_all, if◌then◌else◌}
+use Rattle.rst_settings.specs.Parts.{hands_directive}
 use Rattle.rst_settings.specs.declared.Parts.{Parts}
 use Rattle.rst_text.specs.Block.{Block, first_text, first_number, first_parts}
 use Rattle.rst_tree.specs.Attributes.{with_attr}
@@ -17,7 +18,7 @@ use Rattle.rst_tree.specs.declared.tag.Tag.TheVariants.{Admonition, BlockQuote, 
 use Rattle.rst_markup_blocks.specs.Partition.{Span}
 use Rattle.rst_markup_blocks.specs.declared.forms.Invocation.{Invocation}
 use Rattle.rst_markup_directives.specs.Argument.{ArgumentMeaning, title, uri}
-use Rattle.rst_markup_directives.specs.Directive.{Read, Outcome, found, wrong, directive_at}
+use Rattle.rst_markup_directives.specs.Directive.{Read, Outcome, found, handed, wrong, directive_at}
 use Rattle.rst_markup_directives.specs.Kind.{has_blocks, quote_class}
 use Rattle.rst_markup_directives.specs.Message.{fault_level, fault_text}
 use Rattle.rst_markup_directives.specs.Wrong.{Fault, not_in_substitution}
@@ -33,7 +34,7 @@ use Rattle.rst_block_nodes.specs.Formulas.{formulas}
 use Rattle.rst_block_nodes.specs.Targets.{may_replace}
 use Rattle.rst_block_nodes.specs.Values.{normalized, unescaped}
 use Rattle.rst_block_nodes.specs.Sections.{filled}
-use Rattle.rst_block_nodes.specs.Options.{directive_element, figure_element, image_element, literal_element, subtitle_chosen, with_options}
+use Rattle.rst_block_nodes.specs.Options.{directive_element, figure_element, handed_directive_node, image_element, literal_element, subtitle_chosen, with_options}
 use Rattle.rst_block_nodes.specs.Readings.{subtitled}
 use Rattle.rst_block_state.specs.Figures.{caption_error, figure_nodes}
 use Rattle.rst_block_state.specs.LineRuns.{line_block, number_or, verse_lines}
@@ -50,15 +51,24 @@ content_nodes c B content = do
   more ← c.inner (lines_in B content.second)
   just (some ++ more)
 
+-- a directive that is called in line i of a block is handed back
+abbrev pub is_handed_at : Block → ℕ → Invocation → Bool
+is_handed_at B i call = hands_directive (first_parts (drop i B)) (excerpt (first_text (drop i B)) call.name)
+
 -- the directive that is called in line i of a block, or what is wrong with it, in this place: the document itself, a body, or a definition
 abbrev pub called : Within → Block → ℕ → Invocation → Place → Outcome
-called c B i call place = directive_at c.code B i call place (is_single_paragraph (lines_in B call.block))
+called c B i call place =
+    if is_handed_at B i call then handed else directive_at c.code B i call place (is_single_paragraph (lines_in B call.block))
 
 -- ---- directives
 
 -- the message on a wrong directive of this name, with its lines
 abbrev pub fault_node : Fault → Block → Span → List ℕ → Node
 fault_node fault B s name = message_with_lines (fault_level fault) (first_number (drop s.start B)) (fault_text fault name) (span_source B s)
+
+-- a directive that is handed back, with its lines
+abbrev pub handed_directive : Block → Span → List ℕ → Node
+handed_directive B s name = handed_directive_node name (span_source B s) (first_number (drop s.start B))
 
 -- the element of a directive with a title: the title of an admonition gives its class, unless the options do
 abbrev pub titled_element : Tag → Node → Node → Node
@@ -152,9 +162,10 @@ abbrev pub right_nodes : Within → Block → ℕ → Read → List ℕ → Numb
 right_nodes c B line read lines =
     if has_blocks read.kind.content then opened_by read.argument c B line read lines else closed_nodes c.levels B line read
 
--- a directive, or the message on one that is wrong, which shows its lines; no block of a wrong directive is read
+-- a directive, one that is handed back, or the message on one that is wrong, which shows its lines; no block of the last two is read
 abbrev pub directive_by : Outcome → Within → Block → Span → List ℕ → Numbered (List Node)
 directive_by (found read) c B s name = right_nodes c B (first_number (drop s.start B)) read (span_source B s)
+directive_by handed c B s name = just (handed_directive B s name ∷ [])
 directive_by (wrong fault part) c B s name = just (fault_node fault B s name ∷ [])
 
 -- the directive that is called in the first of some lines; its place is the document itself where titles are recognized, else a body
@@ -198,9 +209,12 @@ definition_nodes c B line name read lines =
     then content_nodes c B read.content >>= (λ nodes. just (replacement name line lines (first_paragraph nodes) ∷ []))
     else just (filled (substitution_definition_node name line) (element_by read.argument (Some name) B line read ∷ []) ∷ [])
 
--- a substitution definition with its directive, or the message on a wrong one, which shows the definition's lines and leaves no definition
+-- a substitution definition with its directive, also one that is handed back, with the definition's lines; or the message on a wrong one, which
+-- shows these lines and leaves no definition
 abbrev pub definition_or_error : Outcome → Within → Block → Span → List ℕ → List ℕ → Numbered (List Node)
 definition_or_error (found read) c B s name written = definition_nodes c B (first_number (drop s.start B)) name read (span_source B s)
+definition_or_error handed c B s name written =
+    just (filled (substitution_definition_node name (first_number (drop s.start B))) (handed_directive B s written ∷ []) ∷ [])
 definition_or_error (wrong fault part) c B s name written = just (fault_node fault B s (faulty_name fault name written) ∷ [])
 
 -- a substitution definition by the directive that it holds, or the WARNING where it holds none, which leaves no definition

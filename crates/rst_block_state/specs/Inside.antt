@@ -7,7 +7,7 @@ use Rattle.rst_markup_blocks.specs.declared.forms.Explicit.{Explicit}
 use Rattle.rst_markup_blocks.specs.declared.forms.Explicit.TheVariants.{Footnote, Citation, Substitution, Directive}
 use Rattle.rst_markup_blocks.specs.declared.forms.Invocation.{Invocation}
 use Rattle.rst_markup_blocks.specs.declared.part.Part.{Part}
-use Rattle.rst_markup_directives.specs.Directive.{Outcome, found, wrong}
+use Rattle.rst_markup_directives.specs.Directive.{Outcome, found, handed, wrong}
 use Rattle.rst_markup_directives.specs.Kind.{has_blocks}
 use Rattle.rst_markup_directives.specs.declared.found.Content.{Content}
 use Rattle.rst_markup_directives.specs.declared.found.Place.TheVariants.{Top, Body, Substitution as InDefinition}
@@ -59,9 +59,10 @@ content_blocks B content = lines_in B content.first ∷ lines_in B content.secon
 abbrev pub directive_content : ContentKind → Block → Content → List Block
 directive_content kind B content = if has_blocks kind then content_blocks B content else []
 
--- no block of a wrong directive is read
+-- no block of a directive that is handed back, or of a wrong one, is read
 abbrev pub directive_blocks : Outcome → Block → List Block
 directive_blocks (found read) B = directive_content read.kind.content B read.content
+directive_blocks handed B = []
 directive_blocks (wrong fault part) B = []
 
 -- a substitution definition that holds no directive has no block

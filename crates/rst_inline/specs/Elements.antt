@@ -8,11 +8,11 @@ use Rattle.rst_tree.specs.Nodes.{forest_of}
 use Rattle.rst_tree.specs.declared.attrs.Attr.{Attr}
 use Rattle.rst_tree.specs.declared.attrs.Value.{Value}
 use Rattle.rst_tree.specs.declared.attrs.Value.TheVariants.{Text as TextValue, Number, List as Listed}
-use Rattle.rst_tree.specs.declared.key.Key.TheVariants.{Anonymous, Auto, Classes, Inline, Message, Name, OwnName, Rawsource, Refname, Refuri}
+use Rattle.rst_tree.specs.declared.key.Key.TheVariants.{Anonymous, Auto, Classes, Inline, Kind, Message, Name, OwnName, Rawsource, Refname, Refuri, XmlSpace}
 use Rattle.rst_tree.specs.declared.node.Node.{Node}
 use Rattle.rst_tree.specs.declared.node.Node.TheVariants.{Element}
 use Rattle.rst_tree.specs.declared.tag.Tag.{Tag}
-use Rattle.rst_tree.specs.declared.tag.Tag.TheVariants.{Target, Reference, SubstitutionReference, FootnoteReference, CitationReference, Literal, Problematic}
+use Rattle.rst_tree.specs.declared.tag.Tag.TheVariants.{Target, Reference, SubstitutionReference, FootnoteReference, CitationReference, Handed, Literal, Problematic}
 use Rattle.rst_text.specs.Characters.{Text}
 use Rattle.rst_inline_scan.specs.declared.piece.Suffix.{Suffix}
 use Rattle.rst_inline_scan.specs.declared.piece.Suffix.TheVariants.{Bare, Anonymous as Nameless}
@@ -128,6 +128,13 @@ label_reference_node source (c ∷ cs) line =
 -- program code, which has the class of the directive for it
 abbrev pub code_node : Text → ℕ → Node
 code_node written line = text_element Literal (attr Classes (Listed (codes "code" ∷ [])) ∷ []) written line
+
+-- ---- what is handed back
+
+-- a directive or a role that is handed back, by its kind, its name and its source text
+abbrev pub handed_node : List ℕ → List ℕ → Text → ℕ → Node
+handed_node kind name source line =
+    text_element Handed (attr Kind (TextValue kind) ∷ attr Name (TextValue name) ∷ attr XmlSpace (TextValue (codes "preserve")) ∷ []) source line
 
 -- ---- problems
 

@@ -1,6 +1,7 @@
 -- What a piece of an inline text means (Markup Specification, 'Inline Markup', 'Interpreted Text', 'Hyperlink References',
 -- 'Embedded URIs and Aliases', 'Substitution References'; Document Tree, 'system_message').
-use Rattle.std.specs.Prelude.{ℕ, ◌+◌, ◌-◌, Bool, true, false, nat_lt, List, [], ◌∷◌, ◌++◌, Option, None, Some, codes}
+use Rattle.std.specs.Prelude.{ℕ, ◌+◌, ◌-◌, Bool, true, false, nat_lt, List, [], ◌∷◌, ◌++◌, Option, None, Some, codes, if◌then◌else◌}
+use Rattle.rst_settings.specs.Parts.{hands_role}
 use Rattle.rst_settings.specs.declared.Parts.{Parts}
 use Rattle.rst_tree.specs.declared.node.Node.TheVariants.{Text as Words}
 use Rattle.rst_tree.specs.declared.note.Level.TheVariants.{Warning, Error}
@@ -26,7 +27,7 @@ use Rattle.rst_inline.specs.declared.roles.Role.TheVariants.{Element, Pep, Rfc, 
 use Rattle.rst_inline.specs.Roles.{role_named}
 use Rattle.rst_inline.specs.Numbers.{pep_reading, rfc_reading}
 use Rattle.rst_inline.specs.Embedded.{embedded_at, enclosed, is_alias, meant, phrase_display_text}
-use Rattle.rst_inline.specs.Elements.{text_element, reference_node, uri_node, address_node, embedded_node, inline_target_node, uri_target_node, substituted_node, label_reference_node, code_node}
+use Rattle.rst_inline.specs.Elements.{text_element, reference_node, uri_node, address_node, embedded_node, inline_target_node, uri_target_node, substituted_node, label_reference_node, code_node, handed_node}
 
 -- ---- messages
 
@@ -98,9 +99,15 @@ role_reading_by (Some Raw) name source written line = raw_role name
 role_reading_by (Some Unimplemented) name source written line = unimplemented_role name
 role_reading_by None name source written line = unknown_role name
 
+-- interpreted text whose role of this name is handed back: its source text
+abbrev pub handed_role : List ℕ → Text → ℕ → Meaning
+handed_role name source line = One (handed_node (codes "role") name source line)
+
 -- interpreted text with a role, by the parts of the wider profile that hold
 abbrev pub role_reading : Parts → Text → Text → Text → ℕ → Meaning
-role_reading parts role source written line = role_reading_by (role_named parts.roles (text_bytes role)) (text_bytes role) source written line
+role_reading parts role source written line =
+    if hands_role parts (text_bytes role) then handed_role (text_bytes role) source line
+    else role_reading_by (role_named parts.roles (text_bytes role)) (text_bytes role) source written line
 
 -- A role comes before interpreted text: the content begins further from the piece's place than one backquote.
 abbrev pub has_prefix_role : Piece → Bool
@@ -114,13 +121,18 @@ prefix_role t p = part t (p.from + 1) (p.content_from - 2)
 abbrev pub suffix_role : Text → Piece → Text
 suffix_role t p = part t (p.content_to + 2) (p.to - 1)
 
--- Interpreted text has one role, before or after, or that of a title reference, and then is no reference.
+-- interpreted text with the default role: a title reference, unless the role without a name is handed back
+abbrev pub default_reading : Parts → Text → Text → ℕ → Meaning
+default_reading parts source written line =
+    if hands_role parts [] then handed_role [] source line else One (text_element tag.TitleReference [] (unescaped written) line)
+
+-- Interpreted text has one role, before or after, or the default role, and then is no reference.
 abbrev pub interpreted_reading : Parts → Bool → Suffix → Text → Piece → ℕ → Meaning
 interpreted_reading parts true Bare t p line = role_reading parts (prefix_role t p) (source t p) (content t p) line
 interpreted_reading parts true RoleAfter t p line = two_roles
 interpreted_reading parts true Named t p line = role_mismatch
 interpreted_reading parts true Anonymous t p line = role_mismatch
-interpreted_reading parts false Bare t p line = One (text_element tag.TitleReference [] (unescaped (content t p)) line)
+interpreted_reading parts false Bare t p line = default_reading parts (source t p) (content t p) line
 interpreted_reading parts false RoleAfter t p line = role_reading parts (suffix_role t p) (source t p) (content t p) line
 interpreted_reading parts false Named t p line = phrase_reading parts.mail Named (source t p) (content t p) line
 interpreted_reading parts false Anonymous t p line = phrase_reading parts.mail Anonymous (source t p) (content t p) line

@@ -1,7 +1,7 @@
 //! Elements of inline markup.
 ghost use Rattle.std.specs.Prelude.{◌≡◌, true, chars, IfOk};
 ghost use Rattle.rst_tree.specs.Attributes.{are_keys_in_order};
-ghost use Rattle.rst_inline.specs.Elements.{text_children, text_element, problematic_node};
+ghost use Rattle.rst_inline.specs.Elements.{text_children, text_element, handed_node, problematic_node};
 
 use rst_tree::{Attrs, Children, Entry, Key, Node, Result, Tag, Text, Value};
 use std::alloc::Global;
@@ -36,6 +36,18 @@ pub(crate) fn element(
         children,
         line,
     })
+}
+
+/// A directive or a role that is handed back, by its name and its source text.
+pub fn handed(alloc: Global, kind: &str, name: &str, source: &str, line: usize) -> Result<Node>
+    ensures { IfOk result (λ node. node ≡ handed_node kind.now name.now (chars source.now) line) }
+{
+    let attrs = vec![in alloc;
+        Entry::new(Key::Kind, Value::Text(Text::from_str(alloc, kind)?)),
+        Entry::new(Key::Name, Value::Text(Text::from_str(alloc, name)?)),
+        Entry::new(Key::XmlSpace, Value::Text(Text::from_str(alloc, "preserve")?)),
+    ]?;
+    element(alloc, Tag::Handed, attrs, source, line)
 }
 
 /// What is wrong as it is written, with the number of its message.

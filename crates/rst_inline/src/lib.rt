@@ -16,6 +16,7 @@ pub mod rows;
 mod texts;
 mod written;
 
+pub use elements::handed;
 pub use mail::mailto;
 pub use nodes::{Pieces, inline, inline_from};
 pub use roles::is_wider_role;

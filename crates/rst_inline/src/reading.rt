@@ -10,9 +10,9 @@ ghost use Rattle.rst_inline.specs.declared.reading.Meaning.TheVariants.{One, Wro
 ghost use Rattle.rst_inline.specs.Elements.{text_element, reference_node, inline_target_node, label_reference_node, substituted_node, link_node, uri_node, address_node, code_node};
 ghost use Rattle.rst_inline.specs.Embedded.{meant, phrase_display_text};
 ghost use Rattle.rst_inline.specs.Parts.{part, source, content};
-ghost use Rattle.rst_inline.specs.Readings.{plain_meaning, plain_reading, embedded_reading, phrase_reading, role_reading, has_prefix_role, interpreted_reading, reading};
+ghost use Rattle.rst_inline.specs.Readings.{handed_role, plain_meaning, plain_reading, embedded_reading, phrase_reading, role_reading, has_prefix_role, interpreted_reading, reading};
 
-use super::elements::element;
+use super::elements::{element, handed};
 use super::embedded::{dark_end, embedded_at, is_alias};
 use super::labels::{are_digits, numbered_footnote};
 use super::mail::{mailto, uri_of_address};
@@ -246,11 +246,24 @@ impl Written<'_> {
         Ok(Meaning::One(node))
     }
 
+    /// Interpreted text whose role is handed back.
+    #[inline(never)]
+    fn handed_role(&self, name: &str, piece: Piece) -> Result<Meaning>
+        ensures { IfOk result (λ reading. reading ≡ handed_role name.now (source self.now.characters.items piece) self.now.line) }
+    {
+        let source = self.part(piece.from, piece.to);
+        let node = handed(self.alloc, "role", name, source, self.line)?;
+        Ok(Meaning::One(node))
+    }
+
     /// Interpreted text with a role.
     #[tactic(auto, using(crate::proofs::TextLemmas::spelled_again))]
     fn with_role(&self, name: &str, piece: Piece) -> Result<Meaning>
         ensures { IfOk result (λ reading. let cs = self.now.characters.items in reading ≡ role_reading self.now.parts (chars name.now) (source cs piece) (content cs piece) self.now.line) }
     {
+        if self.parts.hands_role(name) {
+            return self.handed_role(name, piece);
+        }
         match Role::named(self.parts.roles, name) {
             Some(Role::Element(tag)) => self.text_element_of(tag, piece),
             Some(Role::Pep) => self.pep(piece),
@@ -297,6 +310,8 @@ impl Written<'_> {
             return Ok(Meaning::Wrong(Level::Warning, text));
         }
         match suffix {
+            // The role without a name is the default role.
+            Suffix::Bare if self.parts.hands_role("") => self.handed_role("", piece),
             Suffix::Bare => self.text_element_of(Tag::TitleReference, piece),
             Suffix::Role => { self.with_role(self.part(piece.content_to + 2, piece.to - 1), piece) }
             Suffix::Named | Suffix::Anonymous => self.phrase(suffix, piece),

@@ -96,7 +96,7 @@ tags =
     tag.BulletList ∷ tag.Caption ∷ tag.Caution ∷ tag.Citation ∷ tag.CitationReference ∷ tag.Classifier ∷ tag.Colspec ∷ tag.Comment ∷ tag.Compound ∷
     tag.Contact ∷ tag.Container ∷ tag.Copyright ∷ tag.Danger ∷ tag.Date ∷ tag.Definition ∷ tag.DefinitionList ∷ tag.DefinitionListItem ∷
     tag.Description ∷ tag.Docinfo ∷ tag.DoctestBlock ∷ tag.Document ∷ tag.Emphasis ∷ tag.Entry ∷ tag.EnumeratedList ∷ tag.Error ∷ tag.Field ∷
-    tag.FieldBody ∷ tag.FieldList ∷ tag.FieldName ∷ tag.Figure ∷ tag.Footnote ∷ tag.FootnoteReference ∷ tag.Hint ∷ tag.Image ∷ tag.Important ∷
+    tag.FieldBody ∷ tag.FieldList ∷ tag.FieldName ∷ tag.Figure ∷ tag.Footnote ∷ tag.FootnoteReference ∷ tag.Handed ∷ tag.Hint ∷ tag.Image ∷ tag.Important ∷
     tag.Label ∷ tag.Legend ∷ tag.Line ∷ tag.LineBlock ∷ tag.ListItem ∷ tag.Literal ∷ tag.LiteralBlock ∷ tag.Math ∷ tag.MathBlock ∷ tag.Note ∷
     tag.Option ∷ tag.OptionArgument ∷ tag.OptionGroup ∷ tag.OptionList ∷ tag.OptionListItem ∷ tag.OptionString ∷ tag.Organization ∷ tag.Paragraph ∷
     tag.Problematic ∷ tag.Raw ∷ tag.Reference ∷ tag.Revision ∷ tag.Row ∷ tag.Rubric ∷ tag.Section ∷ tag.Sidebar ∷ tag.Status ∷ tag.Strong ∷
@@ -107,7 +107,7 @@ tags =
 abbrev pub keys : List Key
 keys =
     key.Align ∷ key.Alt ∷ key.Anonymous ∷ key.Auto ∷ key.Backrefs ∷ key.Bullet ∷ key.Classes ∷ key.Cols ∷ key.Colwidth ∷ key.Delimiter ∷ key.Dupnames ∷ key.Enumtype ∷
-    key.Format ∷ key.Height ∷ key.Ids ∷ key.Inline ∷ key.Level ∷ key.Line ∷ key.Mark ∷ key.Message ∷ key.Morecols ∷ key.Morerows ∷ key.Name ∷ key.Names ∷ key.OwnName ∷ key.Prefix ∷
+    key.Format ∷ key.Height ∷ key.Ids ∷ key.Inline ∷ key.Kind ∷ key.Level ∷ key.Line ∷ key.Mark ∷ key.Message ∷ key.Morecols ∷ key.Morerows ∷ key.Name ∷ key.Names ∷ key.OwnName ∷ key.Prefix ∷
     key.Rawsource ∷ key.Refid ∷ key.Refname ∷ key.Refuri ∷ key.Scale ∷ key.Serial ∷ key.Source ∷ key.Start ∷ key.Suffix ∷ key.TextMessages ∷ key.Title ∷ key.Type_ ∷
     key.Uri ∷ key.Width ∷ key.XmlSpace ∷ []
 

@@ -17,7 +17,7 @@ use Rattle.rst_markup_blocks.specs.declared.lines.LineTest.TheVariants.{Blank}
 use Rattle.rst_markup_directives.specs.Argument.{ArgumentMeaning, title, word_of, argument_of}
 use Rattle.rst_markup_directives.specs.Call.{part_of, content_block, content_of, IsContentIn, IsDirectiveIn}
 use Rattle.rst_markup_directives.specs.Characters.{Text}
-use Rattle.rst_markup_directives.specs.Directive.{Read, Outcome, found, wrong, run_in, directive_options, read_parts, directive_by_layout, read_block, directive_outcome_at, fault_of, of_block, judged_directive, directive_outcome}
+use Rattle.rst_markup_directives.specs.Directive.{Read, Outcome, found, handed, wrong, run_in, directive_options, read_parts, directive_by_layout, read_block, directive_outcome_at, fault_of, of_block, judged_directive, directive_outcome}
 use Rattle.rst_markup_directives.specs.Kind.{is_text, kept_columns}
 use Rattle.rst_markup_directives.specs.Layout.{begins_field, before_field, parts_without_argument, layout_by, layout_at, layout_of}
 use Rattle.rst_markup_directives.specs.Lines.{first_run, blank_len, after_blank, joined_nonempty}
@@ -26,7 +26,7 @@ use Rattle.rst_markup_directives.specs.Wrong.{Wrong as WrongInside, Fault, and_t
 use Rattle.rst_markup_directives.specs.declared.argument.Argument.TheVariants.{Absent}
 use Rattle.rst_markup_directives.specs.declared.found.Content.{Content}
 use Rattle.rst_markup_directives.specs.declared.found.Directive.{Directive}
-use Rattle.rst_markup_directives.specs.declared.found.Directive.TheVariants.{Found, Wrong}
+use Rattle.rst_markup_directives.specs.declared.found.Directive.TheVariants.{Found, Handed, Wrong}
 use Rattle.rst_markup_directives.specs.declared.found.Place.{Place}
 use Rattle.rst_markup_directives.specs.declared.layout.Layout.{Layout}
 use Rattle.rst_markup_directives.specs.declared.kind.ContentKind.{ContentKind}
@@ -127,6 +127,7 @@ MayBeReadIn B (Err w) = Unit {0}
 
 abbrev IsOutcomeIn : Block → Outcome → Type 0
 IsOutcomeIn B (found read) = IsGivenIn B read.argument × IsContentIn B read.content
+IsOutcomeIn B handed = Unit {0}
 IsOutcomeIn B (wrong fault source) = Unit {0}
 
 word_in : (B : Block) (words : Text) → MayBeGivenIn B (word_of words)
@@ -171,6 +172,7 @@ judged_in B place paragraph source (Ok read) h = by (fault_of place paragraph re
 
 kept_in : (B : Block) (directive : Directive) → IsOutcomeIn B (directive_outcome directive) → IsDirectiveIn B directive
 kept_in B (Wrong fault source) h = tt
+kept_in B Handed h = tt
 kept_in B (Found kind Absent options content) h = h
 kept_in B _ h = h
 

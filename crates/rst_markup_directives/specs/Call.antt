@@ -7,7 +7,7 @@ use Rattle.rst_markup_directives.specs.declared.argument.Argument.{Argument}
 use Rattle.rst_markup_directives.specs.declared.argument.Argument.TheVariants.{Title}
 use Rattle.rst_markup_directives.specs.declared.found.Content.{Content}
 use Rattle.rst_markup_directives.specs.declared.found.Directive.{Directive}
-use Rattle.rst_markup_directives.specs.declared.found.Directive.TheVariants.{Found, Wrong}
+use Rattle.rst_markup_directives.specs.declared.found.Directive.TheVariants.{Found, Handed, Wrong}
 use Rattle.rst_markup_directives.specs.declared.layout.Layout.{Layout}
 use Rattle.rst_markup_directives.specs.declared.kind.ContentKind.{ContentKind}
 use Rattle.rst_markup_directives.specs.declared.kind.Kind.{Kind}
@@ -53,4 +53,5 @@ IsArgumentIn B argument = Unit {0}
 -- the parts of a directive are those of a block
 abbrev pub IsDirectiveIn : Block → Directive → Type 0
 IsDirectiveIn B (Found kind argument options content) = IsArgumentIn B argument × IsContentIn B content
+IsDirectiveIn B Handed = Unit {0}
 IsDirectiveIn B (Wrong fault source) = Unit {0}

@@ -18,7 +18,7 @@ use Rattle.rst_markup_directives.specs.declared.calls.Reading.{Reading}
 use Rattle.rst_markup_directives.specs.declared.fault.Detail.{Detail}
 use Rattle.rst_markup_directives.specs.declared.found.Content.{Content}
 use Rattle.rst_markup_directives.specs.declared.found.Directive.{Directive}
-use Rattle.rst_markup_directives.specs.declared.found.Directive.TheVariants.{Found as FoundDirective, Wrong as WrongDirective}
+use Rattle.rst_markup_directives.specs.declared.found.Directive.TheVariants.{Found as FoundDirective, Handed as HandedDirective, Wrong as WrongDirective}
 use Rattle.rst_markup_directives.specs.declared.found.Place.{Place}
 use Rattle.rst_markup_directives.specs.declared.kind.Kind.{Kind}
 use Rattle.rst_markup_directives.specs.declared.kind.OptionSet.{OptionSet}
@@ -62,6 +62,7 @@ read_block kind late block H = directive_by_layout (first_parts H) kind block (l
 -- what a directive is; a wrong one has the lines that it is in
 pub data Outcome : Type 0 where
   found : Read → Outcome
+  handed : Outcome
   wrong : Fault → Part → Outcome
 
 -- the outcome for a directive in these lines
@@ -126,4 +127,5 @@ reading_in (Err detail) = Err (wrong_in detail)
 -- the meaning of a directive, right or wrong
 abbrev pub directive_outcome : Directive → Outcome
 directive_outcome (FoundDirective kind argument options content) = found (record { kind = kind; argument = given_in argument; options = choices_in options.items; content = content })
+directive_outcome HandedDirective = handed
 directive_outcome (WrongDirective fault source) = wrong (fault_in fault) source

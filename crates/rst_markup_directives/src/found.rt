@@ -33,6 +33,8 @@ pub enum Directive {
         options: Vec<Setting>,
         content: Content,
     },
+    /// One that is handed back.
+    Handed,
     /// A wrong one, and the lines that it is in.
     Wrong {
         fault: DirectiveFault,

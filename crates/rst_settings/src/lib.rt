@@ -2,7 +2,7 @@
 #![tactic(auto)]
 
 ghost use Rattle.std.specs.Prelude.{◌≡◌, ◌≤◌, true};
-ghost use Rattle.rst_settings.specs.Parts.{no_parts};
+ghost use Rattle.rst_settings.specs.Parts.{hands_directive, hands_role, is_role_line, names_directive, names_role, no_parts};
 ghost use Rattle.rst_settings.specs.Threshold.{threshold_number, is_reached};
 ghost use Rattle.rst_settings.specs.declared.Threshold.TheVariants.{Warning, Severe, Never};
 
@@ -40,7 +40,8 @@ impl Threshold {
     }
 }
 
-/// The parts of the wider profile: what is read otherwise than in the base, each where it is asked for.
+/// The parts of the wider profile: what is read otherwise than in the base, each where it is asked for; and the directives and roles that
+/// are handed back: where a text has one, its source stands in the tree.
 #[derive(Clone, Copy, Debug, PartialEq, Eq)]
 pub struct Parts {
     /// The name of a field holds no unescaped colon directly before a backquote: there, a role ends.
@@ -55,10 +56,14 @@ pub struct Parts {
     pub unmarked: bool,
     /// Keywords of revision control in bibliographic fields are replaced.
     pub keywords: bool,
+    /// The names of the directives and roles that are handed back, if there are any. Each name is a line; that of a role has a colon before it,
+    /// and a colon alone is the default role.
+    /// They are compared without regard to the case of letters of ASCII.
+    pub handed: Option<&'static str>,
 }
 
 impl Parts {
-    /// No part is asked for.
+    /// No part is asked for, and no name is handed back.
     pub const NONE: Parts = Parts {
         marks: false,
         mail: false,
@@ -66,8 +71,9 @@ impl Parts {
         directives: false,
         unmarked: false,
         keywords: false,
+        handed: None,
     };
-    /// Every part is asked for.
+    /// Every part is asked for, and no name is handed back.
     pub const ALL: Parts = Parts {
         marks: true,
         mail: true,
@@ -75,7 +81,52 @@ impl Parts {
         directives: true,
         unmarked: true,
         keywords: true,
+        handed: None,
     };
+
+    /// Whether a directive of this name is handed back.
+    pub fn hands_directive(self, name: &str) -> bool
+        ensures { result ≡ hands_directive self name.now }
+    {
+        match self.handed {
+            Some(names) => names_directive(names, name),
+            None => false,
+        }
+    }
+
+    /// Whether a role of this name is handed back.
+    pub fn hands_role(self, name: &str) -> bool
+        ensures { result ≡ hands_role self name.now }
+    {
+        match self.handed {
+            Some(names) => names_role(names, name),
+            None => false,
+        }
+    }
+}
+
+/// Whether a directive is among names.
+fn names_directive(names: &str, name: &str) -> bool
+    ensures { result ≡ names_directive names.now name.now }
+{
+    names
+        .split('\n')
+        .any(|line| line.eq_ignore_ascii_case(name))
+}
+
+/// Whether a role is among names.
+fn names_role(names: &str, name: &str) -> bool
+    ensures { result ≡ names_role names.now name.now }
+{
+    names.split('\n').any(|line| is_role_line(line, name))
+}
+
+/// Whether a line is a colon and the name of a role.
+fn is_role_line(line: &str, name: &str) -> bool
+    ensures { result ≡ is_role_line line.now name.now }
+{
+    let line = line.as_bytes();
+    0 < line.len() && line[0] == b':' && line[1..].eq_ignore_ascii_case(name.as_bytes())
 }
 
 /// The settings of a run (Configuration, 'General').

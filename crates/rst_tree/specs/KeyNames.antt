@@ -1,7 +1,7 @@
 -- The names of attributes, in the order of the names (Document Tree, 'Attribute Reference').
 use Rattle.std.specs.Prelude.{ℕ, ◌==◌, Bool, true, false, List, codes}
 use Rattle.rst_tree.specs.declared.key.Key.{Key}
-use Rattle.rst_tree.specs.declared.key.Key.TheVariants.{Align, Alt, Anonymous, Auto, Backrefs, Bullet, Classes, Cols, Colwidth, Delimiter, Dupnames, Enumtype, Format, Height, Ids, Inline, Level, Line, Mark, Message, Morecols, Morerows, Name, Names, OwnName, Prefix, Rawsource, Refid, Refname, Refuri, Scale, Serial, Source, Start, Suffix, TextMessages, Title, Type_, Uri, Width, XmlSpace}
+use Rattle.rst_tree.specs.declared.key.Key.TheVariants.{Align, Alt, Anonymous, Auto, Backrefs, Bullet, Classes, Cols, Colwidth, Delimiter, Dupnames, Enumtype, Format, Height, Ids, Inline, Kind, Level, Line, Mark, Message, Morecols, Morerows, Name, Names, OwnName, Prefix, Rawsource, Refid, Refname, Refuri, Scale, Serial, Source, Start, Suffix, TextMessages, Title, Type_, Uri, Width, XmlSpace}
 
 -- the name that is printed
 unfoldable pub key_name : Key → List ℕ
@@ -21,6 +21,7 @@ key_name Format = codes "format"
 key_name Height = codes "height"
 key_name Ids = codes "ids"
 key_name Inline = codes "inline"
+key_name Kind = codes "kind"
 key_name Level = codes "level"
 key_name Line = codes "line"
 key_name Mark = codes "mark"
@@ -65,31 +66,32 @@ key_code Format = 12
 key_code Height = 13
 key_code Ids = 14
 key_code Inline = 15
-key_code Level = 16
-key_code Line = 17
-key_code Mark = 18
-key_code Message = 19
-key_code Morecols = 20
-key_code Morerows = 21
-key_code Name = 22
-key_code Names = 23
-key_code OwnName = 24
-key_code Prefix = 25
-key_code Rawsource = 26
-key_code Refid = 27
-key_code Refname = 28
-key_code Refuri = 29
-key_code Scale = 30
-key_code Serial = 31
-key_code Source = 32
-key_code Start = 33
-key_code Suffix = 34
-key_code TextMessages = 35
-key_code Title = 36
-key_code Type_ = 37
-key_code Uri = 38
-key_code Width = 39
-key_code XmlSpace = 40
+key_code Kind = 16
+key_code Level = 17
+key_code Line = 18
+key_code Mark = 19
+key_code Message = 20
+key_code Morecols = 21
+key_code Morerows = 22
+key_code Name = 23
+key_code Names = 24
+key_code OwnName = 25
+key_code Prefix = 26
+key_code Rawsource = 27
+key_code Refid = 28
+key_code Refname = 29
+key_code Refuri = 30
+key_code Scale = 31
+key_code Serial = 32
+key_code Source = 33
+key_code Start = 34
+key_code Suffix = 35
+key_code TextMessages = 36
+key_code Title = 37
+key_code Type_ = 38
+key_code Uri = 39
+key_code Width = 40
+key_code XmlSpace = 41
 
 -- two attributes have one name
 abbrev pub is_same : Key → Key → Bool

@@ -1,7 +1,7 @@
 -- The names of elements (Document Tree, 'Element Reference').
 use Rattle.std.specs.Prelude.{ℕ, ◌==◌, List, map, codes, if◌then◌else◌}
 use Rattle.rst_tree.specs.declared.tag.Tag.{Tag}
-use Rattle.rst_tree.specs.declared.tag.Tag.TheVariants.{Abbreviation, Acronym, Address, Admonition, Attention, Attribution, Author, Authors, BlockQuote, BulletList, Caption, Caution, Citation, CitationReference, Classifier, Colspec, Comment, Compound, Contact, Container, Copyright, Danger, Date, Definition, DefinitionList, DefinitionListItem, Description, Docinfo, DoctestBlock, Document, Emphasis, Entry, EnumeratedList, Error, Field, FieldBody, FieldList, FieldName, Figure, Footnote, FootnoteReference, Hint, Image, Important, Label, Legend, Line, LineBlock, ListItem, Literal, LiteralBlock, Math, MathBlock, Note, Option, OptionArgument, OptionGroup, OptionList, OptionListItem, OptionString, Organization, Paragraph, Problematic, Raw, Reference, Revision, Row, Rubric, Section, Sidebar, Status, Strong, Subscript, SubstitutionDefinition, SubstitutionReference, Subtitle, Superscript, SystemMessage, Table, Target, Tbody, Term, Tgroup, Thead, Tip, Title, TitleReference, Topic, Transition, Version, Warning}
+use Rattle.rst_tree.specs.declared.tag.Tag.TheVariants.{Abbreviation, Acronym, Address, Admonition, Attention, Attribution, Author, Authors, BlockQuote, BulletList, Caption, Caution, Citation, CitationReference, Classifier, Colspec, Comment, Compound, Contact, Container, Copyright, Danger, Date, Definition, DefinitionList, DefinitionListItem, Description, Docinfo, DoctestBlock, Document, Emphasis, Entry, EnumeratedList, Error, Field, FieldBody, FieldList, FieldName, Figure, Footnote, FootnoteReference, Handed, Hint, Image, Important, Label, Legend, Line, LineBlock, ListItem, Literal, LiteralBlock, Math, MathBlock, Note, Option, OptionArgument, OptionGroup, OptionList, OptionListItem, OptionString, Organization, Paragraph, Problematic, Raw, Reference, Revision, Row, Rubric, Section, Sidebar, Status, Strong, Subscript, SubstitutionDefinition, SubstitutionReference, Subtitle, Superscript, SystemMessage, Table, Target, Tbody, Term, Tgroup, Thead, Tip, Title, TitleReference, Topic, Transition, Version, Warning}
 
 -- the name that is printed
 unfoldable pub tag_name : Tag → List ℕ
@@ -46,6 +46,7 @@ tag_name FieldName = codes "field_name"
 tag_name Figure = codes "figure"
 tag_name Footnote = codes "footnote"
 tag_name FootnoteReference = codes "footnote_reference"
+tag_name Handed = codes "handed"
 tag_name Hint = codes "hint"
 tag_name Image = codes "image"
 tag_name Important = codes "important"

@@ -22,6 +22,7 @@ pub enum Key {
     Ids,
     /// Hidden: of a target: it is in a text.
     Inline,
+    Kind,
     Level,
     Line,
     /// Hidden: the label of a footnote as it was written.
@@ -82,6 +83,7 @@ impl Key {
             Key::Height => " height=\"",
             Key::Ids => " ids=\"",
             Key::Inline => " inline=\"",
+            Key::Kind => " kind=\"",
             Key::Level => " level=\"",
             Key::Line => " line=\"",
             Key::Mark => " mark=\"",

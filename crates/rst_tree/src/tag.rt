@@ -45,6 +45,8 @@ pub enum Tag {
     Figure,
     Footnote,
     FootnoteReference,
+    /// A directive or a role that is handed back, by its source text; Document Tree doesn't have it.
+    Handed,
     Hint,
     Image,
     Important,
@@ -147,6 +149,7 @@ impl Tag {
             Tag::Figure => "figure",
             Tag::Footnote => "footnote",
             Tag::FootnoteReference => "footnote_reference",
+            Tag::Handed => "handed",
             Tag::Hint => "hint",
             Tag::Image => "image",
             Tag::Important => "important",
