@@ -62,6 +62,7 @@ fn markup_at(text: &[char], place: usize, missing: &mut Missing) -> Option<Piece
 /// The piece that begins at the place, which is escaped or not, if a start is there. The word that begins there ends at
 /// `end`.
 #[tactic(auto, unfolding(crate::specs::Pieces::piece_at, crate::specs::Pieces::is_free))]
+#[inline(always)]
 fn piece_at(
     text: &[char],
     place: usize,

@@ -1,10 +1,8 @@
 //! Where what an opening mark began is closed.
-ghost use Rattle.std.specs.Prelude.{◌≡◌, ◌<◌, ◌-◌, ◌&&◌, ◌==◌, not, drop, length, IfSome, chars};
-ghost use Rattle.rst_text.specs.Block as block;
+ghost use Rattle.std.specs.Prelude.{◌≡◌, ◌<◌, ◌-◌, ◌&&◌, not, length, IfSome, chars};
 ghost use Rattle.rst_markup_lines.specs.Closing as spec;
-ghost use Rattle.rst_markup_lines.specs.TextStart as text_start;
 
-use super::text::{after_first, begins_with, first_char, is_blank, is_loose};
+use super::text::{after_first, begins_with, first_char, is_loose};
 use rst_text::{escapes, is_white, skip};
 
 /// What closes.
@@ -67,26 +65,14 @@ pub(crate) fn closed(closing: Closing, text: &str) -> Option<usize>
 pub fn ends_in_colons(text: &str) -> bool
     ensures { result ≡ spec.ends_in_colons (chars text.now) }
 {
-    // A walk from the front finds what is escaped. Few texts need it.
-    if text.as_bytes().last().copied() != Some(b':') {
+    let Some(mut rest) = text.strip_suffix("::") else {
         return false;
-    }
-    let mut rest = text;
+    };
+    // An odd number of backslashes escapes what follows them.
     let mut escaped = false;
-    while let Some(c) = first_char(rest) {
-        let following = after_first(rest);
-        if is_colon_pair(escaped, c, following) {
-            return true;
-        }
-        escaped = escapes(c, escaped);
-        rest = following;
+    while let Some(fewer) = rest.strip_suffix("\\") {
+        escaped = !escaped;
+        rest = fewer;
     }
-    false
-}
-
-/// Whether a character and what is after it are two colons.
-fn is_colon_pair(escaped: bool, c: char, following: &str) -> bool
-    ensures { result ≡ (not escaped && (c == 58 && (text_start.begins_with 58 (chars following.now) && block.is_blank (drop 1 (chars following.now))))) }
-{
-    !escaped && c == ':' && begins_with(':', following) && is_blank(skip(following, 1))
+    !escaped
 }

@@ -1,6 +1,8 @@
 -- What a page gathers, and what of it is written.
-use Rattle.std.proofs.Common.{◌≡◌, ℕ, ◌+◌, ◌-◌, ◌^◌, ◌<◌, min, List, [], ◌++◌, length, take, Bool, true, false, Option, Result, Ok, Err, sym, ◌∙◌, ap, subst, arith, length-append, append_assoc, append-nil, refl, true≢false}
-use Rattle.std.proofs.Math.Seq.{take-length}
+use Rattle.std.proofs.Common.{◌≡◌, ℕ, ◌+◌, ◌-◌, ◌^◌, ◌<◌, ◌≤◌, min, List, [], ◌++◌, length, take, Bool, true, false, Option, Result, Ok, Err, sym, ◌∙◌, ap, subst, arith, length-append, length-take-le, append_assoc, append-nil, refl, true≢false}
+use Rattle.std.proofs.Math.Seq.{take-append-add, take-length}
+use Rattle.std.proofs.lemmas.List.{take-append-le}
+use borrow.Rule.Slice.PartMut.{put_mid}
 use Rattle.rst_text.proofs.WriteLemmas.{sent_nothing, sent_then}
 use Rattle.rst_text.specs.declared.counted.Counted.{Counted}
 use Rattle.rst_text.specs.Counted.{has_failed, between, Gains, IsSent}
@@ -9,6 +11,11 @@ use Rattle.rst_tree.specs.declared.fault.PrintFault.{PrintFault}
 use Rattle.rst_tree.specs.declared.fault.PrintFault.TheVariants.{Write}
 use Rattle.rst_tree.specs.Faults.{IsEnd, Prints}
 use Rattle.rst_tree.specs.Sends.{page_bytes, Came, IsTaken, Sends, Turns}
+
+-- the first of some bytes that were copied to a place
+pub take-placed : (a k n : ℕ) (xs ys : List ℕ) → a ≤ length xs → n ≤ length ys → take (a + n) (put_mid a k xs ys) ≡ take a xs ++ take n ys
+take-placed a k n xs ys within few =
+    ap (λ m. take (m + n) (put_mid a k xs ys)) (sym (length-take-le a xs within)) ∙ take-append-add (take a xs) _ n ∙ ap (λ l. take a xs ++ l) (take-append-le n ys _ few)
 
 module _ {W : Type 0} {N : ℕ} {Takes : W → Option ℕ → List ℕ → W → Type 0} {contents : W → Option (List ℕ)} where
   -- a text that is gathered

@@ -1,5 +1,5 @@
 //! The texts of nodes and messages, piece by piece.
-ghost use Rattle.std.specs.Prelude.{◌≡◌, ◌+◌, ◌*◌, ◌-◌, ◌<◌, false, replicate};
+ghost use Rattle.std.specs.Prelude.{◌≡◌, ◌+◌, ◌*◌, ◌-◌, ◌<◌, ◌++◌, false, replicate};
 ghost use Rattle.rst_tree.specs.Sends.{Sends};
 ghost use Rattle.rst_tree.specs.Print.{needs_backslash, escaped, spaced, value_text, attribute_text, printed_line, text_lines, printed_node};
 ghost use Rattle.rst_tree.specs.Attributes.{attr, attrs_before, following};
@@ -17,7 +17,7 @@ use crate::entry::{Entry, ValueRef};
 use crate::key::Key;
 use crate::node::Node;
 use crate::note::{Level, Note};
-use crate::page::Page;
+use crate::page::{FEW, Page, SPACES};
 use crate::tag::Tag;
 use crate::text::Text;
 use itoa::Buffer;
@@ -209,22 +209,38 @@ fn put_attrs<W: WriteCall, const N: usize>(
     }
 }
 
-/// The indentation of this many levels is written at once.
-const LEVELS: usize = 256;
-
-/// Their indentation.
-const SPACES: [u8; 1024] = [b' '; 1024];
-
 /// Writes the indentation of a level.
 fn put_indent<W: WriteCall, const N: usize>(out: &mut Counted<W>, page: &mut Page<N>, level: usize)
     ensures { Sends W.call_takes W.contents (replicate (4 * level) 32) out.old page.old out.new page.new }
 {
     let mut left = level;
-    while left > LEVELS {
+    while left > FEW {
         page.put(out, &SPACES);
-        left -= LEVELS;
+        left -= FEW;
     }
     page.put(out, &SPACES[..4 * left]);
+}
+
+/// Writes the indentation of a level and two texts after it.
+#[inline(always)]
+fn put_indented<W: WriteCall, const N: usize>(
+    out: &mut Counted<W>,
+    page: &mut Page<N>,
+    level: usize,
+    first: &[u8],
+    second: &[u8],
+)
+    ensures { Sends W.call_takes W.contents (replicate (4 * level) 32 ++ first.now ++ second.now) out.old page.old out.new page.new }
+{
+    // Mostly there is room for all, so one test stands for three.
+    let most = first.len().saturating_add(SPACES.len() + second.len());
+    if level <= FEW && page.has_room(most) && !out.failed() {
+        page.gather_indented(level, first, second);
+        return;
+    }
+    put_indent(out, page, level);
+    page.put(out, first);
+    page.put(out, second);
 }
 
 /// Writes the lines of a text, each after its indentation. The last may have no LF.
@@ -239,9 +255,7 @@ fn put_text<W: WriteCall, const N: usize>(
     let mut rest = text;
     while !rest.is_empty() {
         let end = memchr(b'\n', rest).unwrap_or(rest.len());
-        put_indent(out, page, level);
-        page.put(out, &rest[..end]);
-        page.put(out, b"\n");
+        put_indented(out, page, level, &rest[..end], b"\n");
         let following = &rest[end..];
         rest = &following[following.len().min(1)..];
     }
@@ -264,9 +278,7 @@ pub fn put_node<W: WriteCall, const N: usize>(
             children,
             line,
         } => {
-            put_indent(out, page, level);
-            page.put(out, b"<");
-            page.put(out, tag.name().as_bytes());
+            put_indented(out, page, level, b"<", tag.name().as_bytes());
             put_printed_attrs(out, page, *tag, attrs, *line, source);
             page.put(out, b">\n");
             let inner = level.saturating_add(1);

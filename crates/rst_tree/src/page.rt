@@ -1,9 +1,15 @@
 //! What is written piece by piece to a writer that may fail, gathered in a page: after a failure nothing more is written.
-ghost use Rattle.std.specs.Prelude.{◌≡◌, ◌++◌, ◌+◌, ◌≤◌, [], false, length};
+ghost use Rattle.std.specs.Prelude.{◌≡◌, ◌++◌, ◌+◌, ◌*◌, ◌≤◌, [], false, length, replicate, IsTrue};
 ghost use Rattle.rst_text.specs.Counted.{has_failed};
 
 use crate::fault::PrintFault;
 use rst_text::{Counted, WriteCall};
+
+/// The indentation of this many levels is written at once.
+pub(crate) const FEW: usize = 16;
+
+/// Their indentation.
+pub(crate) const SPACES: [u8; 64] = [b' '; 64];
 
 /// What is gathered on its way to a writer.
 #[derive(Drop)]
@@ -52,12 +58,49 @@ impl<const N: usize> Page<N> {
     fn gather(&mut self, bytes: &[u8])
         requires { self.old.len + length bytes.now ≤ N }
         ensures page_bytes { page_bytes self.new ≡ page_bytes self.old ++ bytes.now }
+        ensures len { self.new.len ≡ self.old.len + length bytes.now }
         ensures taken { self.new.taken ≡ self.old.taken }
     {
         let end = self.len + bytes.len();
         let all = &mut self.bytes[..];
         all[self.len..end].copy_from_slice(bytes);
         self.len = end;
+    }
+
+    /// Whether there is room for this many bytes after what the page holds.
+    #[inline(always)]
+    pub(crate) fn has_room(&self, bytes: usize) -> bool
+        ensures { IsTrue result → self.now.len + bytes ≤ N }
+    {
+        bytes <= N - self.len
+    }
+
+    /// Gathers the indentation of one of the first levels and two texts after it, where there is room for that of the last of them.
+    #[inline(always)]
+    pub(crate) fn gather_indented(&mut self, level: usize, first: &[u8], second: &[u8])
+        requires few { level ≤ 16 }
+        requires room { self.old.len + (length first.now + (64 + length second.now)) ≤ N }
+        ensures page_bytes { page_bytes self.new ≡ page_bytes self.old ++ replicate (4 * level) 32 ++ first.now ++ second.now }
+        ensures taken { self.new.taken ≡ self.old.taken }
+    {
+        self.gather_spaces(4 * level);
+        self.gather(first);
+        self.gather(second);
+    }
+
+    /// Gathers this many spaces, where there is room for all of them: so many are copied, which takes the fewest steps.
+    #[inline(always)]
+    fn gather_spaces(&mut self, count: usize)
+        requires few { count ≤ 64 }
+        requires room { self.old.len + 64 ≤ N }
+        ensures page_bytes { page_bytes self.new ≡ page_bytes self.old ++ replicate count 32 }
+        ensures len { self.new.len ≡ self.old.len + count }
+        ensures taken { self.new.taken ≡ self.old.taken }
+    {
+        let end = self.len + SPACES.len();
+        let all = &mut self.bytes[..];
+        all[self.len..end].copy_from_slice(&SPACES);
+        self.len += count;
     }
 
     /// The same as `put`, where the bytes don't fit after what the page holds: that is written first.

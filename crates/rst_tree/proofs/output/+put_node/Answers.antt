@@ -30,7 +30,7 @@ loop-child-preserved g t c =
 
 pub returns-after-loop-child : goal.returns-after-loop-child
 returns-after-loop-child g t c =
-    Sends-as (c.put_indent.ensures ▸ Sends-as (c.put.ensures ▸ c.put-in-Element.ensures ▸ c.put_printed_attrs.ensures ▸ c.put-in-Element-2.ensures) (tag_line c.in-Element.tag (printed_attrs (given_source c.args.source) c.in-Element.tag c.in-Element.attrs c.in-Element.line) c.as_bytes.result.now (c.as_bytes.ensures.value ∙ c.name.ensures)) ▸ c.loop-child.invariant)
+    Sends-as (Sends-as (c.put_indented.ensures ▸ c.put_printed_attrs.ensures ▸ c.put.ensures) (tag_line c.args.level c.in-Element.tag (printed_attrs (given_source c.args.source) c.in-Element.tag c.in-Element.attrs c.in-Element.line) c.as_bytes.result.now (c.as_bytes.ensures.value ∙ c.name.ensures)) ▸ c.loop-child.invariant)
     (element-with-attrs (given_source c.args.source) c.args.level c.args.node.now c.in-Element.tag c.in-Element.attrs c.in-Element.children c.in-Element.line c.as_slice-child-items.result.now c.loop-child.child-index
     c.in-Element.is c.as_slice-child-items.ensures c.loop-child-test.false)
 

@@ -13,13 +13,13 @@ loop-left-init g c = record {
 pub loop-left-preserved : goal.loop-left-preserved
 loop-left-preserved g c = record {
   within = omega arith;
-  sent = Sends-as (c.loop-left.invariant.sent ▸ c.put.ensures) (indent_after (c.args.level - c.loop-left.left) 256 (c.args.level - (c.loop-left.left - 256)) (omega arith));
+  sent = Sends-as (c.loop-left.invariant.sent ▸ c.put.ensures) (indent_after (c.args.level - c.loop-left.left) 16 (c.args.level - (c.loop-left.left - 16)) (omega arith));
 }
 
 pub returns : goal.returns
 returns g c =
     Sends-as (c.loop-left.invariant.sent ▸ c.put-2.ensures)
     (
-    ap (λ l. replicate (4 * (c.args.level - c.loop-left.left)) 32 ++ l) (take-replicate (4 * c.loop-left.left) 1024 32 (omega (arith, c.loop-left-test.false)))
+    ap (λ l. replicate (4 * (c.args.level - c.loop-left.left)) 32 ++ l) (take-replicate (4 * c.loop-left.left) 64 32 (omega (arith, c.loop-left-test.false)))
     ∙ indent_after (c.args.level - c.loop-left.left) c.loop-left.left c.args.level (omega arith)
     )
