@@ -1,4 +1,5 @@
-"""The families of the benchmark: documents that grow with n, each of one construct, some of them hostile."""
+"""The families of the benchmark: documents that grow with n, each of one construct, some of them hostile. Epigraphs are read by the wider profile
+alone, as dist/rst-tree has it; under the base they are unknown directives. Docutils ends with a RecursionError at 98 of them."""
 
 # How deep the nested families go: Docutils reads no more than 163 blocks in one another.
 DEPTH = 100
@@ -38,6 +39,14 @@ def in_figures(text):
     """A text in the legends of figures, as deep as `DEPTH`."""
     for _ in range(DEPTH):
         text = ".. figure:: x\n\n   c\n\n" + indented(text, 3)
+    return text
+
+
+def in_epigraphs(text, depth=DEPTH, around=""):
+    """A text in block quotes of a class, this deep; each directive stands in what is around it, such as the mark of an item."""
+    for level in range(depth):
+        directive = ("epigraph", "highlights", "pull-quote")[level % 3]
+        text = f"{around}.. {directive}::\n\n" + indented(text, len(around) + 3)
     return text
 
 
@@ -274,6 +283,10 @@ FAMILIES = {
     "definitions that use a long name in another case": lambda n: doubled("x" * n, numbered(n // 500, ".. |b{k}| replace:: |a0|\n")),
     "directives": lambda n: ".. note:: text\n\n" * n,
     "unknown directives": lambda n: ".. unknown:: text\n\n" * n,
+    "epigraphs": lambda n: ".. epigraph:: text\n\n" * n,
+    "lines in nested epigraphs": lambda n: in_epigraphs("a\n" * (n // 20)),
+    "one line in nested epigraphs": lambda n: in_epigraphs("*a* " * n + "\n"),
+    "one line in epigraphs in nested lists": lambda n: in_epigraphs("*a* " * n + "\n", DEPTH * 4 // 5, "- "),
     "emphasis": lambda n: lines(n, "*a* "),
     "names": lambda n: lines(n, "a_ "),
     "URIs": lambda n: lines(n, "http://a/ "),

@@ -7,7 +7,7 @@ For each pair it makes documents for n and 2n, where n is chosen so that the fir
 without what an empty document costs) for each byte of input and output, messages on standard error included. It prints the median, the ten
 pairs that cost most for each byte at 2n, and those whose cost for each byte grows by more than half from n to 2n; each of these is measured five
 more times, and the least counts. A run past the limit of CPU seconds is stopped and shown. All pairs take some fifteen minutes of CPU time.
-PROGRAM is by default the one in dist/.
+PROGRAM is by default dist/rst2pseudoxml. It doesn't know epigraphs: dist/rst-tree does.
 """
 
 import argparse
@@ -57,6 +57,7 @@ BLOCKS = {
     "legend": ".. figure:: i{k}\n\n   c\n\n   {}",
     "code": ".. code::\n\n   {}",
     "unknown directive": ".. unknown::\n\n   {}",
+    "epigraph": ".. epigraph::\n\n   {}",
     "section": "Title {k}\n==========\n\n{}",
     "section of one title": "Title\n-----\n\n{}",
     "title": "{}\n" + "~" * 40,

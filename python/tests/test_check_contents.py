@@ -143,6 +143,24 @@ class Contents(Checking):
         self.assertEqual(self.faults(".. todo::\n\n   One\n   ===\n"), ["4" + unexpected[0], *unexpected[1:]])
         self.assertEqual(self.faults(".. only:: a\n\n   - One\n     ===\n"), ["4" + unexpected[0], *unexpected[1:]])
 
+    def test_topics_and_sidebars(self):
+        """They may be where sections may."""
+        own = "--known=directive:only sections,directive:todo text"
+        for name, known in itertools.product(("topic", "Topic", "sidebar", "Sidebar"), (own, SPHINX)):
+            with self.subTest((name, known)):
+                text = f".. only:: html\n\n   .. {name}:: A *fault\n      :class: b\n      :name: c\n\n      *fault c_\n"
+                self.finds(text + "\n   end\n", known)
+                self.finds(text + "\n      .. note:: *fault\n\nend *fault\n", known)
+        for name, shown in (("topic", "topic"), ("Topic", "topic"), ("Sidebar", "Sidebar")):
+            misplaced = f'3: (ERROR/3) The "{shown}" directive may not be used within topics or body elements.'
+            for text in (".. todo::\n\n   .. {}:: a\n\n      b\n", ".. only:: html\n\n   - .. {}:: a\n\n        b\n"):
+                self.assertEqual(self.faults(text.format(name), own)[0], misplaced)
+        for known in (own, SPHINX):
+            self.finds(".. only:: html\n\n   .. sidebar::\n\n      *fault\n\n   .. sidebar::\n      :class: b\n\n      *fault\n", known)
+            for option in (":subtitle: b *c", ":SubTitle: b\n        *c\n      :class: d", ":class: d\n      :subtitle: *c"):
+                text = f".. only:: html\n\n   .. sidebar:: a\n      {option}\n\n      d\n"
+                self.assertEqual(self.faults(text, known), [EMPHASIS.format("", 3)[1:]], text)
+
     def test_names(self):
         page = ".. only:: a\n   :name: here\n\n   .. _one: u\n\n   |sub| [1]_ two_ [#]_\n\nhere_ one_ `a`__\n\n"
         more = ".. _two: u\n.. |sub| replace:: a\n.. [1] a\n.. todo::\n\n   .. [#] b\n\n   __ u\n"

@@ -1,5 +1,5 @@
 -- The cells of tables, read one after the other, and what a block gives once its table is read.
-use Rattle.std.proofs.Common.{◌≡◌, ℕ, zero, suc, true, ◌-◌, ◌≤◌, List, [], ◌∷◌, ◌++◌, drop, map, Result, Ok, Err, arith, refl, sym, ◌∙◌, ap, append_assoc, append-nil, subst}
+use Rattle.std.proofs.Common.{◌≡◌, ℕ, suc, ◌-◌, ◌≤◌, List, [], ◌∷◌, ◌++◌, drop, Result, Ok, Err, arith, sym, ◌∙◌, ap, append_assoc, append-nil, subst}
 use Rattle.rst_text.specs.Block.{Block, first_number}
 use Rattle.rst_tree.specs.declared.node.Node.{Node}
 use Rattle.rst_markup_tables.specs.declared.results.Cell.{Cell}
@@ -9,12 +9,12 @@ use Rattle.rst_block_nodes.specs.Elements.{entry_node}
 use Rattle.rst_block_nodes.specs.Sections.{filled}
 use Rattle.rst_block_state.specs.Constructs.{grid}
 use Rattle.rst_block_state.specs.Joins.{alone_ending}
-use Rattle.rst_block_state.specs.machine.Meanings.{Keeps, comes, deepest, done_of, reads, reads_from, text_items, text_with, within_at}
-use Rattle.rst_block_state.specs.Nodes.{below_last_level, block_items, ending_notes, inner_nodes, nodes_among}
+use Rattle.rst_block_state.specs.machine.Meanings.{Keeps, comes, done_of, reads, reads_from, text_items, within_at}
+use Rattle.rst_block_state.specs.Nodes.{ending_notes, nodes_among}
 use Rattle.rst_block_state.specs.Numbered.{Numbered, then_read, ◌>>=◌, just, each}
 use Rattle.rst_block_state.specs.machine.OpenBlocks.{IsMoved, HasMore}
 use Rattle.rst_block_state.specs.Tables.{entry_of, row_of, table_node}
-use Rattle.rst_block_state.specs.Titles.{Item, plain}
+use Rattle.rst_block_state.specs.Titles.{Item}
 use Rattle.rst_block_nodes.specs.declared.fault.BlockFault.{BlockFault}
 use Rattle.rst_block_nodes.specs.declared.fault.BlockFault.TheVariants.{TooDeep, NoMemory}
 use Rattle.rst_block_state.specs.declared.open_block.OpenBlock.{OpenBlock}
@@ -22,7 +22,6 @@ use Rattle.rst_block_state.specs.declared.step.Step.TheVariants.{Cells}
 use Rattle.rst_block_state.proofs.Changes.{more_more, moved_more, more_is_read}
 use Rattle.rst_block_state.proofs.MeaningLemmas.{text_inside}
 use Rattle.rst_block_state.proofs.NumberedLemmas.{same_after, after_after, then_just, at_number}
-use Rattle.rst_block_state.proofs.RestLemmas.{nodes_among_plain}
 use Rattle.rst_block.proofs.Waiting.{among_done}
 
 -- ---- one thing after the other

@@ -1,14 +1,12 @@
 -- What whole texts take of looks.
-use Rattle.std.proofs.Common.{◌≡◌, ℕ, zero, suc, ◌-◌, Bool, true, false, [], ◌∷◌, length, arith, refl}
-use Rattle.std.specs.Prelude.{◌==◌}
+use Rattle.std.proofs.Common.{◌≡◌, suc, true, false, [], ◌∷◌, length, refl}
 use Rattle.std.proofs.lemmas.Bool.{and_parts}
 use Rattle.rst_settings.specs.Profile.{profile_of}
 use Rattle.rst_settings.specs.declared.Settings.{Settings}
 use Rattle.rst_text.specs.Block.{Block}
 use Rattle.rst_text.specs.Lines.{ends_white, is_line_text, are_lines}
 use Rattle.rst_text.proofs.LineTexts.{is_line_text-parts}
-use Rattle.rst_markup_blocks.specs.Partition.{spans_from}
-use Rattle.rst_block_state.specs.looks.Budget.{sum_of, total}
+use Rattle.rst_block_state.specs.looks.Budget.{total}
 use Rattle.rst_block_state.specs.looks.BudgetLaws.{is_trimmed}
 use Rattle.rst_block_state.specs.looks.Ledger.{total_at}
 use Rattle.rst_block_state.specs.looks.LedgerLaws.{IsBounded}

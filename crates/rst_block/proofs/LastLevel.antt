@@ -1,27 +1,18 @@
 -- Blocks and texts below the last level: they must be blank.
-use Rattle.std.proofs.Common.{◌≡◌, ◌⊎◌, ℕ, suc, ◌+◌, ◌-◌, ◌<◌, ◌≤◌, Bool, true, false, List, [], ◌∷◌, length, drop, map, Option, Some, None, Result, Ok, Err, arith, refl, sym, ◌∙◌, ap, subst, inl, inr}
+use Rattle.std.proofs.Common.{◌≡◌, ℕ, suc, ◌+◌, ◌-◌, ◌<◌, ◌≤◌, Bool, true, false, List, [], ◌∷◌, length, drop, map, Result, Ok, Err, arith, refl, sym, ◌∙◌, ap}
 use Rattle.std.specs.Prelude.{if◌then◌else◌}
-use Rattle.std.proofs.lemmas.Bool.{cases_lt}
-use Rattle.std.proofs.lemmas.List.{nil_from_length}
 use Rattle.rst_text.specs.Block.{Line, Block, is_blank, first_number}
-use Rattle.rst_tree.specs.declared.node.Node.{Node}
 use Rattle.rst_markup_blocks.specs.Lines.{lines_while}
-use Rattle.rst_markup_blocks.specs.Partition.{spans_from}
 use Rattle.rst_markup_blocks.specs.declared.lines.LineTest.TheVariants.{Blank}
-use Rattle.rst_markup_blocks.specs.declared.part.Part.{Part}
 use Rattle.rst_block_state.specs.machine.MeaningLaws.{IsRefusedBelow}
-use Rattle.rst_block_state.specs.machine.Meanings.{IsNew, Keeps, TellsBlank, after, comes, deepest, done_of, resumed, text_items, text_with, within_at}
-use Rattle.rst_block_state.specs.Nodes.{below_last_level, block_items, inner_nodes, plainly}
+use Rattle.rst_block_state.specs.machine.Meanings.{IsNew, Keeps, TellsBlank, comes, deepest, done_of, text_items, text_with}
+use Rattle.rst_block_state.specs.Nodes.{below_last_level, plainly}
 use Rattle.rst_block_state.specs.Numbered.{then_read, just}
-use Rattle.rst_block_state.specs.Texts.{lines_in}
 use Rattle.rst_block_state.specs.Titles.{Item, plain}
 use Rattle.rst_block_nodes.specs.declared.fault.BlockFault.{BlockFault}
 use Rattle.rst_block_nodes.specs.declared.fault.BlockFault.TheVariants.{TooDeep, NoMemory}
 use Rattle.rst_block_state.specs.declared.open_block.OpenBlock.{OpenBlock}
-use Rattle.rst_block_state.specs.declared.waits.Waits.{Waits}
-use Rattle.rst_block_state.specs.declared.step.Step.{Step}
 use Rattle.rst_block_state.specs.declared.step.Step.TheVariants.{Begin}
-use Rattle.rst_block_state.proofs.NumberedLemmas.{at_number}
 
 blank_or_refused : (b : Bool) (l : Line) (ls : Block) (n : ℕ) → IsRefusedBelow (lines_while Blank ls) ls (below_last_level ls n) n
     → IsRefusedBelow (if b then suc (lines_while Blank ls) else 0) (l ∷ ls) ((if b then below_last_level ls else (λ number. Err l.number)) n) n

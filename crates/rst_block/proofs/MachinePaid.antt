@@ -1,7 +1,6 @@
 -- The looks that the machine takes: at the cells of tables, in the blocks that wait, and in whole texts.
-use Rattle.std.proofs.Common.{◌≡◌, ℕ, suc, ◌+◌, ◌-◌, ◌*◌, ◌<◌, ◌≤◌, true, false, List, [], ◌∷◌, ◌++◌, length, map, Option, Some, None, append-nil, arith, refl, ap, sym, subst, ◌∙◌, vec_items}
+use Rattle.std.proofs.Common.{◌≡◌, ℕ, suc, ◌+◌, ◌-◌, ◌*◌, ◌≤◌, true, false, List, [], ◌∷◌, ◌++◌, length, map, Option, Some, None, append-nil, arith, refl, ap, sym, subst, ◌∙◌, vec_items}
 use Rattle.std.specs.Prelude.{Vec, IsTrue}
-use Rattle.std.proofs.lemmas.List.{nil_from_length}
 use Rattle.rst_settings.specs.Profile.{profile_of}
 use Rattle.rst_settings.specs.declared.Settings.{Settings}
 use Rattle.rst_text.specs.Block.{Block}
@@ -24,7 +23,7 @@ use Rattle.rst_block_state.specs.declared.frame.Frame.{Frame}
 use Rattle.rst_block_state.specs.declared.open_block.OpenBlock.{OpenBlock}
 use Rattle.rst_block_state.specs.declared.waits.Waits.{Waits}
 use Rattle.rst_block_state.specs.declared.run.Run.{Run}
-use Rattle.rst_block_state.specs.declared.run.Run.TheVariants.{None as NoRun, List as ListRun, Lines, Explicit}
+use Rattle.rst_block_state.specs.declared.run.Run.TheVariants.{None as NoRun}
 use Rattle.rst_block_state.specs.declared.step.Step.{Step}
 use Rattle.rst_block_state.specs.declared.step.Step.TheVariants.{Begin, Next, Open, Cells, Done}
 use Rattle.rst_block.proofs.DocumentLooks.{last_text, bounded}

@@ -1,5 +1,5 @@
 -- The blocks that explicit markup opens are in its lines, one after another, and begin with a line that isn't blank.
-use Rattle.std.proofs.Common.{◌≡◌, ℕ, ◌+◌, ◌-◌, ◌<◌, ◌≤◌, Bool, true, false, cond, List, length, drop, Option, None, Some, arith, refl, ap, ◌∙◌}
+use Rattle.std.proofs.Common.{◌≡◌, ℕ, ◌+◌, ◌-◌, ◌<◌, ◌≤◌, Bool, true, false, cond, List, length, drop, Option, None, Some, arith, ap, ◌∙◌}
 use Rattle.std.specs.Prelude.{IfSome, unwrap_or, option_map}
 use Rattle.std.specs.Option.{option_and_then}
 use Rattle.std.proofs.lemmas.List.{drop-drop}
@@ -12,7 +12,7 @@ use Rattle.rst_markup_lines.specs.declared.explicit_marks.DirectiveMark.{Directi
 use Rattle.rst_markup_lines.specs.declared.explicit_marks.LabelKind.{LabelKind}
 use Rattle.rst_markup_lines.specs.declared.explicit_marks.LabelKind.TheVariants.{Footnote as FootnoteLabel, Citation as CitationLabel}
 use Rattle.rst_markup_lines.specs.declared.explicit_marks.SubstitutionMark.TheVariants.{Named as NamedSubstitution, Unclosed, Tight}
-use Rattle.rst_markup_lines.specs.declared.explicit_marks.TargetMark.TheVariants.{Named, Anonymous}
+use Rattle.rst_markup_lines.specs.declared.explicit_marks.TargetMark.TheVariants.{Named}
 use Rattle.rst_markup_lines.specs.declared.marker.Marker.{Marker}
 use Rattle.rst_markup_lines.specs.declared.place.Characters.{Characters}
 use Rattle.rst_markup_blocks.specs.Conditions.{next_text}
@@ -21,7 +21,7 @@ use Rattle.rst_markup_blocks.specs.ExplicitMarkup.{explicit_form, substitution_f
 use Rattle.rst_markup_blocks.specs.Parts.{IsBlock}
 use Rattle.rst_markup_blocks.specs.Sizes.{hanging_size}
 use Rattle.rst_markup_blocks.specs.declared.explicit_markup.ExplicitForm.{ExplicitForm}
-use Rattle.rst_markup_blocks.specs.declared.explicit_markup.ExplicitForm.TheVariants.{Label, Target, Substitution, Directive, Comment}
+use Rattle.rst_markup_blocks.specs.declared.explicit_markup.ExplicitForm.TheVariants.{Label, Target, Substitution, Directive}
 use Rattle.rst_markup_blocks.specs.declared.forms.CommentCause.TheVariants.{Plain}
 use Rattle.rst_markup_blocks.specs.declared.forms.Explicit.{Explicit}
 use Rattle.rst_markup_blocks.specs.declared.forms.Explicit.TheVariants.{EmptyComment, Comment as CommentMarkup}

@@ -28,11 +28,11 @@ use Rattle.rst_markup_blocks.specs.Partition.{construct_size, construct_end}
 use Rattle.rst_markup_blocks.specs.Sizes.{hanging_size, text_size, adornment_size, adorned_size, third_text}
 use Rattle.rst_markup_blocks.specs.declared.attribution.Attribution.{Attribution}
 use Rattle.rst_markup_blocks.specs.declared.form.Adorned.{Adorned}
-use Rattle.rst_markup_blocks.specs.declared.form.Adorned.TheVariants.{Text as AdornedText, ShortOverline, ShortAdornment, Transition, Title as AdornedTitle, InvalidMarker, Incomplete, MissingUnderline, Mismatch, Unexpected}
+use Rattle.rst_markup_blocks.specs.declared.form.Adorned.TheVariants.{Text as AdornedText, ShortOverline, ShortAdornment}
 use Rattle.rst_markup_blocks.specs.declared.form.TextForm.{TextForm}
 use Rattle.rst_markup_blocks.specs.declared.form.TextForm.TheVariants.{Paragraph, ShortUnderline, Definition, Title}
 use Rattle.rst_markup_blocks.specs.declared.kind.Kind.{Kind}
-use Rattle.rst_markup_blocks.specs.declared.kind.Kind.TheVariants.{Blank, Quote, Bullet, Enumerator as EnumeratorKind, Field, OptionItem, Doctest, Line, Grid, Simple, Explicit, Anonymous, Adornment as AdornmentKind, Text}
+use Rattle.rst_markup_blocks.specs.declared.kind.Kind.TheVariants.{Quote, Bullet, Enumerator as EnumeratorKind, Field, OptionItem, Line, Explicit, Anonymous, Adornment as AdornmentKind, Text}
 use Rattle.rst_markup_blocks.specs.declared.lines.LineTest.TheVariants.{Blank as BlankTest}
 use Rattle.rst_markup_blocks.specs.declared.part.Part.{Part}
 use Rattle.rst_markup_blocks.proofs.EndLemmas.{bullet_is, enumerator_is, size_definition}

@@ -7,7 +7,7 @@ use Rattle.rst_tree.specs.declared.node.Node.{Node}
 use Rattle.rst_markup_blocks.specs.declared.part.Part.{Part}
 use Rattle.rst_block_nodes.specs.Sections.{items_of}
 use Rattle.rst_block_state.specs.machine.Frames.{ended_as}
-use Rattle.rst_block_state.specs.machine.Meanings.{IsNew, Keeps, after, comes, deepest, done_of, open_run_of, plug, reads, reads_from, resumed, with_item, within_at}
+use Rattle.rst_block_state.specs.machine.Meanings.{Keeps, after, comes, deepest, done_of, open_run_of, plug, reads, reads_from, resumed, with_item, within_at}
 use Rattle.rst_block_state.specs.Nodes.{nodes_among}
 use Rattle.rst_block_state.specs.Numbered.{Numbered, ◌>>=◌, just}
 use Rattle.rst_block_state.specs.machine.OpenBlocks.{HasMore, HasItem}

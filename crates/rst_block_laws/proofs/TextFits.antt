@@ -20,7 +20,7 @@ use Rattle.rst_inline_scan.specs.declared.piece.Markup.TheVariants.{Literal, Str
 use Rattle.rst_inline_scan.specs.declared.piece.Piece.{Piece}
 use Rattle.rst_inline_scan.specs.declared.piece.Suffix.{Suffix}
 use Rattle.rst_inline_scan.specs.declared.piece.Suffix.TheVariants.{Bare, Role as RoleAfter, Named, Anonymous}
-use Rattle.rst_inline.specs.Elements.{text_children, text_element, code_node, link_node, reference_node, substitution_node, substituted_node, autonumbered_reference_node, label_reference_node, label_tag, problematic_node}
+use Rattle.rst_inline.specs.Elements.{text_children, text_element, link_node, reference_node, substitution_node, substituted_node, autonumbered_reference_node, label_reference_node, label_tag, problematic_node}
 use Rattle.rst_inline.specs.Embedded.{dark_end, embedded_at, enclosed, is_alias, meant, phrase_display_text}
 use Rattle.rst_inline_scan.specs.Mail.{is_address}
 use Rattle.rst_inline.specs.Mail.{uri_of_address, mailed}

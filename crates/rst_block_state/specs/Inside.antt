@@ -1,5 +1,5 @@
 -- The blocks that are opened inside a block, and the cells of its tables (Markup Specification, 'Body Elements').
-use Rattle.std.specs.Prelude.{ℕ, zero, suc, ◌+◌, Bool, true, false, List, [], ◌∷◌, length, take, drop, flat_map, Option, None, Some, if◌then◌else◌}
+use Rattle.std.specs.Prelude.{ℕ, zero, suc, ◌+◌, List, [], ◌∷◌, length, take, drop, flat_map, Option, None, Some, if◌then◌else◌}
 use Rattle.rst_text.specs.Block.{Block}
 use Rattle.rst_markup_blocks.specs.Explicit.{explicit_of}
 use Rattle.rst_markup_blocks.specs.declared.attribution.Attribution.{Attribution}

@@ -45,3 +45,7 @@ Means text count tree = whole_if (document_of_lines no_parts 9 text) ≡ Ok (enc
 -- the same where every part of the wider profile is asked for
 abbrev pub MeansWider : List String → ℕ → List String → Type 0
 MeansWider text count tree = whole_if (document_of_lines all_parts 9 text) ≡ Ok (encode_utf8_all (written tree), count)
+
+-- the same of a block that is nested too deeply
+abbrev pub IsTooDeepWider : ℕ → List String → ℕ → Type 0
+IsTooDeepWider levels text line = document_of_lines all_parts levels text ≡ Err line

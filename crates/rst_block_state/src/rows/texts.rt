@@ -2,7 +2,7 @@
 #![tactic(auto, unfolding(crate::proofs::Computing::rst_block_state))]
 
 ghost use Rattle.std.specs.Prelude.{[], ◌∷◌};
-ghost use Rattle.rst_block_state.specs.Reads.{IsTooDeep, Means, MeansWider, Reads};
+ghost use Rattle.rst_block_state.specs.Reads.{IsTooDeep, IsTooDeepWider, Means, MeansWider, Reads};
 
 /// Inline markup (Markup Specification, 'Inline Markup').
 pub fn inline_markup()
@@ -149,6 +149,8 @@ pub fn nesting()
     ensures cells_of_blank_lines { IsTooDeep 0 ("+---+---+" ∷ "|   |   |" ∷ "|   | a |" ∷ "|   |   |" ∷ "+---+---+" ∷ []) 3 }
     ensures line_blocks { IsTooDeep 1 ("| a" ∷ "|  b" ∷ "|   c" ∷ []) 3 }
     ensures line_blocks_in_an_item { IsTooDeep 2 ("- | a" ∷ "  |  b" ∷ "  |   c" ∷ []) 3 }
+    ensures line_block_by_its_directive { IsTooDeepWider 1 (".. line-block::" ∷ "" ∷ "   a" ∷ "    b" ∷ "     c" ∷ []) 5 }
+    ensures quotes_of_a_class { IsTooDeepWider 1 (".. epigraph::" ∷ "" ∷ "   a" ∷ []) 3 }
     ensures replacement { IsTooDeep 0 (".. |a| replace:: b" ∷ []) 1 }
     ensures wrong_replacement { IsTooDeep 0 (".. |a| replace:: - b" ∷ "- c" ∷ []) 2 }
     ensures code { IsTooDeep 0 (".. code::" ∷ "" ∷ "   a" ∷ "- b" ∷ []) 4 }

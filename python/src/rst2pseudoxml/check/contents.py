@@ -13,6 +13,7 @@ NAME = r"[^\W_]+(?:[-._+:][^\W_]+)*"
 DIRECTIVE = re.compile(rf"\.\. +({NAME}) ?::(?: +|$)", re.MULTILINE)
 FIELD = re.compile(r" *:(?! )[^:]+:(?: |$)")
 NAME_OPTION = re.compile(r" *:name: +\S")
+SUBTITLE_OPTION = re.compile(r" *:subtitle: +", re.IGNORECASE)
 TIP = ".. tip::"
 FILLER = "x"  # a text without a fault
 
@@ -49,7 +50,8 @@ def end_of(lines: list[str], first: int, column: int, whole: bool) -> int:
 
 
 class Directive:
-    """The source of a directive, in parts. Its first lines are its argument, or content if it takes none, and then its options.
+    """The source of a directive, in parts. Its first lines are its argument, or content if it takes none, and then its options. The
+    option `subtitle` of a sidebar is read as if its argument went on with it.
 
     Where the line after it isn't blank, no line becomes blank at its end: that one is missing there is a fault.
     """
@@ -60,11 +62,12 @@ class Directive:
         options = next((at for at, line in enumerate(block[:end]) if at and FIELD.match(line)), end)
         self.name = head[1] if head else ""
         self.first = block[0][head.end() :].strip() if head else ""
-        self.more = block[1:options]
+        subtitle = _option(block, SUBTITLE_OPTION, options, end) if self.name.lower() == "sidebar" else range(0)
+        self.more = [*block[1:options], *(SUBTITLE_OPTION.sub("", block[at]) for at in subtitle)]
         self.block = block
         self.names = [line for line in block[options:end] if NAME_OPTION.match(line)]
         self.left_out = "" if before_blank or end < len(block) else " " * margin(block[1:]) + FILLER
-        self.content = [self.left_out] * (end - options - len(self.names)) + block[end:]
+        self.content = [self.left_out] * (end - options - len(subtitle) - len(self.names)) + block[end:]
 
     def as_tip(self, mark: str) -> Tip | None:
         """The directive with what its mark says to be text, or none if that isn't where it is looked for."""
@@ -102,13 +105,17 @@ class Directive:
 
 def without_option(block: list[str], name: str) -> list[str] | None:
     """A directive without an option, if it has it after its first line; as many lines."""
-    option = re.compile(rf" *:{re.escape(name)}:(?: |$)", re.IGNORECASE)
     end = next((at for at, line in enumerate(block) if at and not line.strip()), len(block))
-    first = next((at for at in range(1, end) if option.match(block[at])), None)
-    if first is None or end == len(block):
+    lines = _option(block, re.compile(rf" *:{re.escape(name)}:(?: |$)", re.IGNORECASE), 1, end)
+    if not lines or end == len(block):
         return None
-    last = next((at for at in range(first + 1, end) if indentation(block[at]) <= indentation(block[first])), end)
-    return block[:first] + block[last:end] + [""] * (last - first) + block[end:]
+    return block[: lines.start] + block[lines.stop : end] + [""] * len(lines) + block[end:]
+
+
+def _option(block: list[str], form: re.Pattern[str], first: int, end: int) -> range:
+    """The places of the lines of an option between two places; none, if it isn't there."""
+    first = next((at for at in range(first, end) if form.match(block[at])), end)
+    return range(first, next((at for at in range(first + 1, end) if indentation(block[at]) <= indentation(block[first])), end))
 
 
 def _lines(content: list[str]) -> Tip:

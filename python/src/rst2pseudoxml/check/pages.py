@@ -15,7 +15,7 @@ from .names import Known, Names, fold
 ROLE = re.compile(r":(?<![^\s\-/'\"<(\[{:]:)([A-Za-z][A-Za-z0-9_.+:-]*):`(?![`\s])")
 UNKNOWN = 'Unknown directive type "'
 TITLE = "Unexpected section title"
-TOPIC = 'The "topic" directive may not be used within'
+MISPLACED = re.compile('The "(?:topic|sidebar)" directive may not be used within', re.IGNORECASE)
 OPTION = re.compile(r'Error in "(.*)" directive:\nunknown option: "(.*)"\.')
 CODE = ("code", "code-block", "sourcecode")
 JOINED = "Line block ends without a blank line."
@@ -132,8 +132,8 @@ class Text:
         return less is not None and self._put(at, column, block, less)
 
     def _take_titles(self, found: list[Message]) -> bool:
-        """Makes paragraphs of titles, and admonitions of topics, in directives that may hold them; whether there was one."""
-        titles = [message for message in found if message.text.startswith((TITLE, TOPIC))]
+        """Makes paragraphs of titles, and opens topics and sidebars, in directives that may hold them; whether there was one."""
+        titles = [message for message in found if message.text.startswith(TITLE) or MISPLACED.match(message.text)]
         about = {message.line: message for message in found if message.text.startswith("Title ")}
         parents = self._parents() if titles else []
         taken = [self._take_title(message, self.opened.get(parents[message.line - 1], "")) for message in titles]
@@ -141,14 +141,14 @@ class Text:
         return any(taken)
 
     def _take_title(self, message: Message, name: str) -> bool:
-        """Takes a title or a topic in a directive of this name; whether it may hold it."""
+        """Takes a title, a topic or a sidebar in a directive of this name; whether it may hold it."""
         at, lines = message.line - 1, self.lines
         line = lines[at].strip()
         if not line or self.known.mark(name) != "sections":
             return False
-        if line.startswith(".. topic"):
-            lines[at] = lines[at].replace("topic", "admonition", 1)
-            return True
+        if MISPLACED.match(message.text):
+            block = (message.block or "").split("\n")
+            return line.startswith("..") and self._open(at, lines[at].find(".."), block, "title")
         below = [part.strip() for part in [*lines[at + 1 : at + 3], "", ""]]
         is_overline = message.text != TITLE + "." and below[0] != ""
         if is_overline and below[1] != line:

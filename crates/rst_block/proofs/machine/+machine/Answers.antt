@@ -1,6 +1,5 @@
-use Rattle.std.proofs.Common.{◌≡◌, ◌⊎◌, inl, inr, ℕ, suc, ◌-◌, ◌^◌, ◌≤◌, List, [], length, drop, arith, rules, refl, sym, subst, ap, ◌∙◌, map, vec_items}
+use Rattle.std.proofs.Common.{◌≡◌, ℕ, ◌-◌, ◌^◌, ◌≤◌, List, [], length, drop, arith, rules, refl, sym, subst, ap, ◌∙◌, map, vec_items}
 use Rattle.std.proofs.lemmas.List.{drop_all, nil_from_length, take_all}
-use Rattle.std.proofs.lemmas.Result.{IfOk-weaker}
 use Rattle.std.specs.Vec.Iter.{into_iter_items}
 use Rattle.rst_text.specs.Block.{Block}
 use Rattle.rst_text.specs.ViewBlock.{block_of, source_of}
