@@ -45,7 +45,7 @@ typedef struct rst_options {
    the place of those after RST_TOO_LONG. */
 enum rst_end {
     RST_DONE = 0,        /* the texts were made; each is in its room if it fits */
-    RST_BAD_OPTIONS = 1, /* a field of the options is out of its range, or the size is none that this library knows */
+    RST_BAD_OPTIONS = 1, /* a field of the options is out of its range, or the size is none that this library knows; or names aren't UTF-8 */
     RST_BAD_SOURCE = 2,  /* the name of the source isn't UTF-8 */
     RST_TOO_LONG = 3,    /* the text has more than 16,777,216 bytes */
     RST_NOT_UTF8 = 4,    /* `at` bytes are the longest front of the text that is UTF-8 */
@@ -106,6 +106,13 @@ void rst_records(const uint8_t *text, size_t text_length, const rst_options *opt
 /* The messages as JSON, in the order in which the program shows them, those that --report and --halt leave: a list of
    {"line": 3, "level": 2, "type": "WARNING", "text": ".."}; "block" holds the source text of a message that has one, else it is absent. */
 void rst_messages(const uint8_t *text, size_t text_length, const rst_options *options, uint8_t *json, size_t json_room, rst_result *result);
+
+/* What is parsed of a text, as JSON: the document before names and ids are given and references are resolved, with the attributes that serve
+   this. `names` are directives and roles that are handed back, in UTF-8: a name a line, that of a role with a colon before it, a colon alone
+   for the default role. Where the text has one of them there is an element `handed` with its source, and no message. Nothing is shown or
+   halts: `report`, `halt`, `exit_status`, `no_doc_title` and `no_doc_info` make no difference. docs/LIBRARY.md describes it. */
+void rst_parse(const uint8_t *text, size_t text_length, const uint8_t *names, size_t names_length, const rst_options *options, uint8_t *json,
+               size_t json_room, rst_result *result);
 
 #ifdef __cplusplus
 }

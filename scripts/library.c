@@ -1,9 +1,9 @@
 /* Calls the library as a program in C would, for scripts/check_library.sh.
 
-     library print|json|records|messages REPORT HALT EXIT TAB LIMIT NO_TITLE NO_INFO PROFILE SOURCE
+     library print|json|records|messages|parse REPORT HALT EXIT TAB LIMIT NO_TITLE NO_INFO PROFILE SOURCE
 
    reads a text from standard input and writes what the call makes of it: the tree or the JSON to standard output, the messages to standard
-   error. Of records it writes the tree that they show. The status is the program's. If nothing was made it is 100 and the end of the call, and
+   error. `parse` takes SOURCE as the names that are handed back. Of records it writes the tree that they show. The status is the program's. If nothing was made it is 100 and the end of the call, and
    standard error has the end and its place. It is 200 where the library breaks its word. Each call is made with no room, with rooms that are
    one byte too small, with exact ones and with larger ones: what doesn't fit must leave its room as it was, and nothing may be written behind
    a text.
@@ -71,6 +71,9 @@ static rst_result made(const struct call *call, struct room *first, struct room 
         rst_json(call->text, call->text_length, &call->options, first->bytes, first->length, &result);
     else if (!strcmp(call->name, "records"))
         rst_records(call->text, call->text_length, &call->options, first->bytes, first->length, &result);
+    else if (!strcmp(call->name, "parse"))
+        rst_parse(call->text, call->text_length, (const uint8_t *)call->source, strlen(call->source), &call->options, first->bytes, first->length,
+                  &result);
     else
         rst_messages(call->text, call->text_length, &call->options, first->bytes, first->length, &result);
     return result;
@@ -261,12 +264,14 @@ static struct room all_of(FILE *file)
 
 static const char TEXT[] = "Title\n=====\n\nA *word and a link_.\n\n- an item\n\n  + inside\n\n.. _link: https://example.org/\n";
 
+static const char *const NAMES[] = {"print", "json", "records", "messages", "parse"};
+enum { NAME_COUNT = sizeof NAMES / sizeof *NAMES };
+
 static void *calls(void *unused)
 {
-    static const char *const NAMES[] = {"print", "json", "records", "messages"};
     (void)unused;
     for (int i = 0; i < 300; i++) {
-        struct call call = {NAMES[i % 4], (const uint8_t *)TEXT, sizeof TEXT - 1, "a", RST_OPTIONS};
+        struct call call = {NAMES[i % NAME_COUNT], (const uint8_t *)TEXT, sizeof TEXT - 1, "a", RST_OPTIONS};
         struct room first = marked(4096), second = marked(4096);
         rst_result told = made(&call, &first, &second);
         if (told.end != RST_DONE || told.status || !told.length || !is_marked(&first, told.length))
@@ -341,10 +346,9 @@ static int fails_at(const struct call *call, long number, const rst_result *whol
 
 static int allocations(void)
 {
-    static const char *const NAMES[] = {"print", "json", "records", "messages"};
     struct room text = all_of(stdin);
     long count = 0;
-    for (int i = 0; i < 4; i++) {
+    for (int i = 0; i < NAME_COUNT; i++) {
         struct call call = {NAMES[i], text.bytes, text.length, "a", RST_OPTIONS};
         struct room none = {NULL, 0};
         rst_result whole = made(&call, &none, &none);

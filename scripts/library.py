@@ -7,6 +7,8 @@ text it checks that `print` gives the program's output, its messages and its sta
 `json` is JSON that shows the same tree, that the records show it too (library.c prints the tree from them), and that `messages` is JSON that
 shows the same messages. The program is the one that scripts/program.sh finds.
 
+The parsed documents of some texts, with names that are handed back, are compared with what docs/LIBRARY.md says of them.
+
 Under the wider profile, which the program hasn't, the calls are compared with the trees and messages of scripts/wider.py; and with the program
 on texts that both profiles read alike, which are the worked rows and those named there. That a profile of 2 or 255 is refused is tested too.
 """
@@ -35,7 +37,7 @@ MUTATIONS = [b"\n", b"*", b"`", b"|", b"_ ", b":", b"  ", b"\t", b"\\", b'"', b"
 OPTIONS = [[], ["-v"], ["--halt=warning"], ["--exit-status=info", "--no-doc-info"], ["--no-doc-title", "--tab-width=3", "--strict"]]
 PLACES = ("report", "halt", "exit-status", "tab-width", "line-length-limit", "no-doc-title", "no-doc-info", "profile")
 WIDER_PROFILE = "--profile=1"
-CALLS = ("print", "json", "records", "messages")
+CALLS = ("print", "json", "records", "messages", "parse")
 WORDS = {"-v": "--report=info", "--verbose": "--report=info", "-q": "--report=none", "--quiet": "--report=none", "--strict": "--halt=info"}
 
 
@@ -117,6 +119,13 @@ class Comparison:
         end = wanted_end(wanted[1])
         return self.refusal(words, text, end) if end else self.difference(words, text, *wanted)
 
+    def parse_fault(self, names, profile, text, wanted):
+        """What is wrong with the parsed document of a text, in which names are handed back."""
+        words = [self.library, "parse", *options([f"--profile={profile}"]), names]
+        done = subprocess.run([*SMALL_STACK, *words], input=text.encode(), capture_output=True, check=False)
+        found = (done.returncode, done.stderr, json.loads(done.stdout) if done.returncode == 0 else None)
+        return None if found == wanted else "parse"
+
     def refusal(self, words, text, end):
         """The first call that doesn't end with this status, end and place, if one doesn't."""
         refused = (b"", b"end %d at %d\n" % end[1:], end[0])
@@ -147,6 +156,31 @@ class Comparison:
         if self.call("print", [], text)[:2] == (tree, err):
             return "print without a profile"
         return self.fault([], text) or self.fault([WIDER_PROFILE], text, (tree, err, 0))
+
+
+def handed(line, kind, name, source):
+    """What stands for a directive or a role that is handed back."""
+    return ["handed", line, {"kind": kind, "name": name, "xml:space": "preserve"}, source]
+
+
+# Names, a profile, a text, and how the call on it ends: by docs/LIBRARY.md.
+PARSED = (
+    ("toctree\n:ref", 0, "See :ref:`there`.\n\n.. toctree::\n   a\n",
+     ["document", 0, {}, ["paragraph", 1, {}, "See ", handed(1, "role", "ref", ":ref:`there`"), "."],
+      handed(3, "directive", "toctree", ".. toctree::\n   a")]),
+    ("", 0, ".. _a: b_\n\n`a`_ *c\n",
+     ["document", 0, {}, ["target", 1, {"own_name": "a", "refname": "b"}],
+      ["paragraph", 3, {"text_messages": 1}, ["reference", 3, {"name": "a", "rawsource": "`a`_", "refname": "a"}, "a"], " ",
+       ["problematic", 3, {"message": 0}, "*"], "c"],
+      ["system_message", 3, {"level": 2, "line": 3, "message": 0, "type": "WARNING"},
+       ["paragraph", 3, {}, "Inline emphasis start-string without end-string."]]]),
+    ("Note\n:", 1, "- .. note:: `x`\n- `x` a@b.org\n",
+     ["document", 0, {}, ["bullet_list", 1, {"bullet": "-"}, ["list_item", 1, {}, handed(1, "directive", "note", ".. note:: `x`")],
+      ["list_item", 2, {}, ["paragraph", 2, {}, handed(2, "role", "", "`x`"), " ",
+       ["reference", 2, {"rawsource": "a@b.org", "refuri": "mailto:a@b.org"}, "a@b.org"]]]]]),
+    ("py:function", 0, ".. |a| py:function:: b\n",
+     ["document", 0, {}, ["substitution_definition", 1, {"own_name": "a"}, handed(1, "directive", "py:function", ".. |a| py:function:: b")]]),
+)
 
 
 def tables(count):
@@ -187,6 +221,9 @@ def main():
             started += [(name, pool.submit(comparison.profile_fault, *(part.encode() for part in row))) for name, *row in WIDER]
             wrong_profile = (101, 1, 0)
             started += [(f"profile {n}", pool.submit(comparison.refusal, [f"--profile={n}"], b"a\xff", wrong_profile)) for n in (2, 255)]
+            for row in PARSED:
+                started.append((f"parse {row[:2]}", pool.submit(comparison.parse_fault, *row[:3], (0, b"", row[3]))))
+            started.append(("wrong names", pool.submit(comparison.parse_fault, b"a\xff", 0, "a", (101, b"end 1 at 0\n", None))))
             for name, one in started:
                 count += 1
                 fault = one.result()

@@ -29,7 +29,11 @@ pub fn document_of(alloc: Global, settings: &Settings, bytes: Vec<u8>) -> Result
 
 /// What is read of the bytes, and the settings with the parts that hold in their text: if a line of it is too long, the document has only
 /// a message on that.
-fn parsed_of(alloc: Global, settings: &Settings, bytes: Vec<u8>) -> Result<(Parsed, Settings), End>
+pub fn parsed_of(
+    alloc: Global,
+    settings: &Settings,
+    bytes: Vec<u8>,
+) -> Result<(Parsed, Settings), End>
     requires few { length bytes.items ≤ 16777216 }
     ensures { spec.Parses (profile_of settings.now) settings.now bytes.items result }
 {

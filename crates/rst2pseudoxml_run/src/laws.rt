@@ -1,5 +1,5 @@
 //! Laws on the definitions, each by a function that does nothing and whose contract is the law.
-ghost use Rattle.std.specs.Prelude.{ℕ, false, ◌+◌, ◌*◌, ◌≤◌, List, IfOk, Result};
+ghost use Rattle.std.specs.Prelude.{ℕ, None, false, ◌+◌, ◌*◌, ◌≤◌, List, IfOk, Result};
 ghost use Rattle.std.specs.declared.alloc.AllocError.{AllocError};
 ghost use Rattle.rst_settings.specs.Profile.{Profile, profile_of};
 ghost use Rattle.rst_settings.specs.declared.Settings.{Settings};
@@ -16,7 +16,7 @@ ghost use Rattle.rst_block_state.specs.Documents.{document};
 ghost use Rattle.rst2pseudoxml_run.specs.OneEnd.{HasOneEnd};
 ghost use Rattle.rst_inline_scan.specs.Mail.{holds_at_sign};
 ghost use Rattle.rst_settings.specs.Parts.{no_parts};
-ghost use Rattle.rst2pseudoxml_run.specs.Marks.{holds_dollar_sign, holds_mark, holds_role_end, holds_wider_directive, holds_wider_role};
+ghost use Rattle.rst2pseudoxml_run.specs.Marks.{holds_dollar_sign, holds_handed, holds_mark, holds_role_end, holds_wider_directive, holds_wider_role};
 ghost use Rattle.rst2pseudoxml_run.specs.Parts.{NeedsMark};
 ghost use Rattle.rst2pseudoxml_run.specs.Profiles.{IsFirstProfile, ProfilesAgree};
 ghost use Rattle.rst2pseudoxml_run.specs.RunResult.{IsJudged};
@@ -46,16 +46,18 @@ pub fn profiles_agree()
     ensures { ProfilesAgree }
 {}
 
-/// It makes no difference that a part of the wider profile is asked for where the text doesn't hold its mark. Without any mark, the result is that of
-/// a run that asks for no part but, if it is asked for, `unmarked`, which has no mark. Without the mark of one part, it is that of a run that doesn't ask
-/// for this part: `marks`, `mail`, `roles`, `directives` or `keywords`.
+/// It makes no difference that a part of the wider profile is asked for, or that names are handed back, where the text doesn't hold its mark. Without
+/// any mark, the result is that of a run that asks for no part but, if it is asked for, `unmarked`, which has no mark, and that hands no name back.
+/// Without the mark of one part, it is that of a run that doesn't ask for this part: `marks`, `mail`, `roles`, `directives` or `keywords`. Where none
+/// of the names that are handed back may stand in the text, it is that of a run that hands none back.
 pub fn parts_need_their_marks()
     ensures parts { NeedsMark (λ asked. record no_parts { unmarked = asked.unmarked }) holds_mark }
-    ensures marks { NeedsMark (λ asked. record asked { marks = false }) holds_role_end }
-    ensures mail { NeedsMark (λ asked. record asked { mail = false }) holds_at_sign }
-    ensures roles { NeedsMark (λ asked. record asked { roles = false }) holds_wider_role }
-    ensures directives { NeedsMark (λ asked. record asked { directives = false }) holds_wider_directive }
-    ensures keywords { NeedsMark (λ asked. record asked { keywords = false }) holds_dollar_sign }
+    ensures marks { NeedsMark (λ asked. record asked { marks = false }) (λ asked. holds_role_end) }
+    ensures mail { NeedsMark (λ asked. record asked { mail = false }) (λ asked. holds_at_sign) }
+    ensures roles { NeedsMark (λ asked. record asked { roles = false }) (λ asked. holds_wider_role) }
+    ensures directives { NeedsMark (λ asked. record asked { directives = false }) (λ asked. holds_wider_directive) }
+    ensures keywords { NeedsMark (λ asked. record asked { keywords = false }) (λ asked. holds_dollar_sign) }
+    ensures handed { NeedsMark (λ asked. record asked { handed = None }) holds_handed }
 {}
 
 /// Where blocks nest at most 250 deep, a finished document has at most 1,333 levels, for all settings.

@@ -12,7 +12,7 @@ pub mod rows;
 mod running;
 mod starting;
 
-pub use document::document_of;
+pub use document::{document_of, parsed_of};
 pub use end::End;
 pub use error_text::{halting, is_reported, status_of};
 pub use reporting::{Stop, report};

@@ -10,8 +10,8 @@ use rst_inline::is_wider_role;
 use rst_markup_directives::is_wider_directive;
 use rst_settings::Parts;
 
-/// The parts of the wider profile that hold in a text: those that are asked for and whose mark it holds. It is searched for
-/// no other mark. The part `unmarked` has none.
+/// The parts of the wider profile that hold in a text, and the names that are handed back: those that are asked for and whose mark it
+/// holds. It is searched for no other mark. The part `unmarked` has none.
 pub fn parts_in(asked: Parts, text: &str) -> Parts
     ensures { result ≡ spec.parts_in asked (encode_utf8_all (chars text.now)) }
 {
@@ -22,7 +22,11 @@ pub fn parts_in(asked: Parts, text: &str) -> Parts
         directives: asked.directives && holds_wider_directive(text),
         unmarked: asked.unmarked,
         keywords: asked.keywords && holds_dollar_sign(text),
-        handed: asked.handed,
+        handed: if holds_handed(asked, text) {
+            asked.handed
+        } else {
+            None
+        },
     }
 }
 
@@ -60,8 +64,15 @@ fn holds_wider_directive(text: &str) -> bool
 fn ends_with_directive(text: &str) -> bool
     ensures { result ≡ spec.ends_with_directive text.now }
 {
+    is_wider_directive(last_word(text))
+}
+
+/// The last word of a text, without the white space behind it.
+fn last_word(text: &str) -> &str
+    ensures { result.now ≡ spec.last_word text.now }
+{
     let text = text.trim_ascii_end();
-    is_wider_directive(&text[word_start(text.as_bytes())..])
+    &text[word_start(text.as_bytes())..]
 }
 
 /// The place behind the last white character of ASCII, or the beginning.
@@ -75,6 +86,59 @@ fn word_start(text: &[u8]) -> usize
         start -= 1;
     }
     start
+}
+
+/// Whether a name that is handed back may stand in a text: the default role beside a backquote, or another name at a colon.
+fn holds_handed(asked: Parts, text: &str) -> bool
+    ensures { result ≡ spec.holds_handed asked text.now }
+{
+    match asked.handed {
+        Some(names) => {
+            (asked.hands_role("") && text.as_bytes().contains(&b'`')) || holds_names(names, text)
+        }
+        None => false,
+    }
+}
+
+/// Whether one of some names may stand at a colon of a text.
+fn holds_names(names: &str, text: &str) -> bool
+    ensures { result ≡ spec.holds_names names.now text.now }
+{
+    let next = text.split(':').skip(1);
+    text.split(':')
+        .zip(next)
+        .any(|(before, next)| may_name(names, before, next))
+}
+
+/// Whether one of some names may stand at a colon between two texts: that of a directive before two colons, or that of a role between a
+/// colon and a backquote.
+fn may_name(names: &str, before: &str, next: &str) -> bool
+    ensures { result ≡ spec.may_name names.now before.now next.now }
+{
+    (next.is_empty() && has_part(names, last_word(before)))
+        || (next.starts_with('`') && has_part(names, before))
+        || (before.ends_with('`') && has_part(names, next))
+}
+
+/// Whether a word is a part, between colons, of one of some names, and not empty.
+fn has_part(names: &str, word: &str) -> bool
+    ensures { result ≡ spec.has_part names.now word.now }
+{
+    !word.is_empty() && is_part_of_one(names, word)
+}
+
+/// The same of a word that may be empty.
+fn is_part_of_one(names: &str, word: &str) -> bool
+    ensures { result ≡ spec.is_part_of_one names.now word.now }
+{
+    names.split('\n').any(|name| is_part(name, word))
+}
+
+/// Whether a word is a part of a name.
+fn is_part(name: &str, word: &str) -> bool
+    ensures { result ≡ spec.is_part name.now word.now }
+{
+    name.split(':').any(|part| part.eq_ignore_ascii_case(word))
 }
 
 /// Whether a dollar sign stands in a text.

@@ -117,7 +117,7 @@ fn made_as(alloc: Global, format: Format, document: &Tree) -> Result<Option<Vec<
         Format::PseudoXml => Ok(None),
         Format::Json => {
             let mut text = Vec::new(alloc);
-            put_node(alloc, document.root(), &mut text)?;
+            put_node(alloc, document.root(), false, &mut text)?;
             text.push(b'\n')?;
             Ok(Some(text))
         }

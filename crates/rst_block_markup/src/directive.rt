@@ -25,8 +25,8 @@ use super::closed::closed_nodes;
 use super::explicit::put;
 use super::single::is_single_paragraph;
 use rst_block_nodes::{
-    append, directive_element, figure, filled, handed_directive, image, message, subtitle, with_text,
-    with_title_class,
+    append, directive_element, figure, filled, handed_directive, image, message, subtitle,
+    with_text, with_title_class,
 };
 use rst_block_state::{
     OpenBlock, Pass, Result, Step, Waits, alone, excerpt, first_line_or, inside, joined, number_at,
@@ -76,12 +76,7 @@ pub(crate) fn directive_at(
 }
 
 /// Whether a directive is handed back. Nothing is read where no name is.
-fn is_handed(
-    view: &View<'_>,
-    at: usize,
-    invocation: &Invocation,
-    pass: &mut Pass,
-) -> Result<bool>
+fn is_handed(view: &View<'_>, at: usize, invocation: &Invocation, pass: &mut Pass) -> Result<bool>
     requires call { IsCall (block_of view.now) at invocation.now }
     ensures handed { Gives (λ handed. handed ≡ meaning.is_handed_at (block_of view.now) at invocation.now) result }
     ensures numbers { pass.new.numbers ≡ pass.old.numbers }
@@ -175,12 +170,7 @@ pub(crate) fn handed_at(
     let alloc = pass.alloc;
     let name = excerpt(alloc, view.line(at, &mut pass.looks), invocation.name)?;
     let lines = source(alloc, view, at, end, &mut pass.looks)?;
-    Ok(handed_directive(
-        alloc,
-        name.as_str(),
-        lines.as_str(),
-        number_at(view, at),
-    )?)
+    Ok(handed_directive(alloc, name.as_str(), lines.as_str(), number_at(view, at))?)
 }
 
 /// Where a directive of a block is, by whether titles are allowed there.

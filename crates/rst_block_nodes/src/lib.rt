@@ -26,7 +26,9 @@ mod texted;
 mod values;
 
 pub use contents::{append, completed, filled};
-pub use directives::{directive_element, handed_directive, literal_block, subtitle, with_options, with_title_class};
+pub use directives::{
+    directive_element, handed_directive, literal_block, subtitle, with_options, with_title_class,
+};
 pub use fault::BlockFault;
 pub use formula::formulas;
 pub use heading::{Heading, Style};

@@ -1,7 +1,7 @@
 -- What a document means, as the tree of it before any transform, for worked examples. No rule of markup.
 use Prim.Native.String.{String}
 use Rattle.std.specs.Prelude.{◌≡◌, ℕ, true, List, [], ◌∷◌, encode_utf8_all, Result, Ok, Err}
-use Rattle.rst_settings.specs.Parts.{no_parts, all_parts}
+use Rattle.rst_settings.specs.Parts.{all_parts, handing, no_parts}
 use Rattle.rst_settings.specs.declared.Parts.{Parts}
 use Rattle.rst_text.specs.Lines.{lines_of}
 use Rattle.rst_text.specs.Written.{written}
@@ -45,6 +45,10 @@ Means text count tree = whole_if (document_of_lines no_parts 9 text) ≡ Ok (enc
 -- the same where every part of the wider profile is asked for
 abbrev pub MeansWider : List String → ℕ → List String → Type 0
 MeansWider text count tree = whole_if (document_of_lines all_parts 9 text) ≡ Ok (encode_utf8_all (written tree), count)
+
+-- the same where, besides, these names are handed back
+abbrev pub MeansHanding : String → List String → ℕ → List String → Type 0
+MeansHanding names text count tree = whole_if (document_of_lines (handing names) 9 text) ≡ Ok (encode_utf8_all (written tree), count)
 
 -- the same of a block that is nested too deeply
 abbrev pub IsTooDeepWider : ℕ → List String → ℕ → Type 0

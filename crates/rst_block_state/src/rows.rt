@@ -4,6 +4,7 @@
 pub mod blocks;
 pub mod directives;
 pub mod explicit;
+pub mod handed;
 pub mod lists;
 pub mod sections;
 pub mod tables;

@@ -2,7 +2,7 @@
 use Rattle.std.specs.Prelude.{◌≡◌, ◌⊎◌, ℕ, ◌≤◌, Bool, true, false, nat_lt, nat_le, if◌then◌else◌, List, [], ◌++◌, length, drop, map, filter, Option, None, Some, Result, Ok, Err}
 use Rattle.std.specs.Str.{is_utf8}
 use Rattle.std.specs.Str.Lossy.{utf8_valid_len}
-use Rattle.rst_c.specs.Options.{SetsIf}
+use Rattle.rst_c.specs.Options.{SetsHandingIf, SetsIf}
 use Rattle.rst_c.specs.declared.answer.Refusal.{Refusal}
 use Rattle.rst_c.specs.declared.answer.Refusal.TheVariants.{Options, Source, Text}
 use Rattle.rst_c.specs.declared.answer.RstResult.{RstResult}
@@ -10,7 +10,7 @@ use Rattle.rst_c.specs.declared.answer.Made.{Made}
 use Rattle.rst_c.specs.declared.document.Form.{Form}
 use Rattle.rst_c.specs.declared.document.Form.TheVariants.{DocumentJson, DocumentRecords, MessagesJson}
 use Rattle.rst_c.specs.declared.options.RstOptions.{RstOptions}
-use Rattle.rst_json.specs.Json.{json_array, json_node, json_note}
+use Rattle.rst_json.specs.Json.{json_array, json_node, json_node_of, json_note}
 use Rattle.rst_json.specs.Records.{node_record}
 use Rattle.rst_settings.specs.Profile.{profile_of}
 use Rattle.rst_settings.specs.declared.Settings.{Settings}
@@ -20,6 +20,7 @@ use Rattle.rst_transform.specs.Finishing.{leaves}
 use Rattle.rst_transform.specs.declared.finishing.Finished.{Finished}
 use Rattle.rst_transform_messages.specs.Messages.{highest_level}
 use Rattle.rst_tree.specs.PrintedAttributes.{with_printed_attrs}
+use Rattle.rst_tree_index.specs.declared.parsed.Parsed.{Parsed}
 use Rattle.rst_tree.specs.declared.node.Node.{Node}
 use Rattle.rst_tree.specs.declared.note.Note.{Note}
 use Rattle.rst2pseudoxml_options.specs.declared.format.Format.TheVariants.{PseudoXml}
@@ -71,6 +72,32 @@ made_by makes (Err end) = Err (Text end)
 abbrev pub form_wanted : Form → Option Settings → List ℕ → Wanted
 form_wanted form None text = Err Options
 form_wanted form (Some settings) text = made_by (parts_as form settings) (left_of settings text)
+
+-- what is parsed of some bytes: the document before the transforms, or the refusal
+abbrev pub parsed_of_read : Result (Node × ℕ) ℕ → Result Node End
+parsed_of_read (Ok read) = Ok read.0
+parsed_of_read (Err line) = Err (TooDeep line)
+
+abbrev pub parsed_of_text : Settings → List ℕ → Option (List ℕ) → Result Node End
+parsed_of_text settings bytes None = Err (NotUtf8 (utf8_valid_len bytes))
+parsed_of_text settings bytes (Some text) = parsed_of_read (read_of (profile_of settings) (lines_under settings text))
+
+abbrev pub parsed_of : Settings → List ℕ → Result Node End
+parsed_of settings bytes =
+    let text = text_of bytes in if nat_lt 16777216 (length bytes) then Err TooLong else parsed_of_text (held settings text) bytes text
+
+-- it as JSON, with the attributes that serve the transforms alone, too
+abbrev pub parsed_json : Node → List ℕ
+parsed_json document = json_node_of true (with_printed_attrs None document)
+
+abbrev pub parsed_parts : Result Node End → Wanted
+parsed_parts (Ok document) = Ok (record { out = parsed_json document; err = []; status = 0 })
+parsed_parts (Err end) = Err (Text end)
+
+-- what is parsed of a text
+abbrev pub parse_wanted : Option Settings → List ℕ → Wanted
+parse_wanted None text = Err Options
+parse_wanted (Some settings) text = parsed_parts (parsed_of settings text)
 
 abbrev pub wanted_of : Result Parts End → Wanted
 wanted_of (Ok parts) = Ok parts
@@ -127,7 +154,12 @@ MakesWanted wanted made = (made ≡ wanted) ⊎ ((made ≡ Err (Text NoMemory)) 
 
 -- By options: they choose settings or none, and a call that made what is wanted under these, or ran out of memory, leaves this.
 abbrev pub Answers : RstOptions → (Option Settings → Wanted) → (Wanted → Type 0) → Type 0
-Answers options wanted Leaves = (settings : Option Settings) × SetsIf options settings × ((made : Wanted) × MakesWanted (wanted settings) made × Leaves made)
+Answers options wanted Leaves = (settings : Option Settings) × SetsIf options None settings × ((made : Wanted) × MakesWanted (wanted settings) made × Leaves made)
+
+-- the same by options and names that are handed back
+abbrev pub AnswersHanding : RstOptions → List ℕ → (Option Settings → Wanted) → (Wanted → Type 0) → Type 0
+AnswersHanding options names wanted Leaves =
+    (settings : Option Settings) × SetsHandingIf options names settings × ((made : Wanted) × MakesWanted (wanted settings) made × Leaves made)
 
 -- ---- on the way
 
@@ -138,6 +170,12 @@ Finds settings bytes (Ok finished) =
     (left_of settings bytes ≡ Ok (finished.tree, notes)) × (finished.highest ≡ highest_level notes) × (finished.highest ≤ 4)
 Finds settings bytes (Err NoMemory) = length bytes ≤ 16777216
 Finds settings bytes (Err end) = left_of settings bytes ≡ Err end
+
+-- what is parsed of some bytes, or memory ran out where they aren't too many
+abbrev pub FindsParsed : Settings → List ℕ → Result Parsed End → Type 0
+FindsParsed settings bytes (Ok parsed) = parsed_of settings bytes ≡ Ok parsed.tree
+FindsParsed settings bytes (Err NoMemory) = length bytes ≤ 16777216
+FindsParsed settings bytes (Err end) = parsed_of settings bytes ≡ Err end
 
 -- what was made
 abbrev pub made_of : Result Made Refusal → Wanted

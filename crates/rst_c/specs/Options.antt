@@ -1,6 +1,7 @@
 -- The options of a call (Configuration, 'report_level', 'halt_level', 'exit_status_level', 'doctitle_xform', 'docinfo_xform', 'tab_width',
 -- 'line_length_limit'), and the profile.
-use Rattle.std.specs.Prelude.{◌≡◌, ℕ, Bool, true, false, if◌then◌else◌, ◌&&◌, ◌==◌, nat_le, Option, None, Some}
+use Rattle.std.specs.Prelude.{◌≡◌, ℕ, Bool, true, false, if◌then◌else◌, ◌&&◌, ◌==◌, nat_le, List, Option, None, Some, option_map}
+use Rattle.std.specs.Str.{is_utf8}
 use Rattle.rst_settings.specs.Parts.{all_parts, no_parts}
 use Rattle.rst_settings.specs.declared.Parts.{Parts}
 use Rattle.rst_settings.specs.declared.Settings.{Settings}
@@ -21,8 +22,12 @@ are_in_range options =
 abbrev pub parts_of_profile : ℕ → Parts
 parts_of_profile number = if number == 0 then no_parts else all_parts
 
--- options that are in their ranges choose these settings; thresholds go by their numbers
-pub record SetsOptions (options : RstOptions) (settings : Settings) : Type 0 where
+-- the names that settings hand back
+abbrev pub names_handed : Settings → Option (List ℕ)
+names_handed settings = option_map (λ names. names.now) settings.parts.handed
+
+-- options that are in their ranges, and names that are handed back, choose these settings; thresholds go by their numbers
+pub record SetsOptions (options : RstOptions) (names : Option (List ℕ)) (settings : Settings) : Type 0 where
   pub in_range : are_in_range options ≡ true
   pub report : threshold_number settings.report ≡ options.report
   pub halt : threshold_number settings.halt ≡ options.halt
@@ -31,9 +36,14 @@ pub record SetsOptions (options : RstOptions) (settings : Settings) : Type 0 whe
   pub info : settings.info ≡ (options.no_doc_info == 0)
   pub tab : settings.tab ≡ options.tab_width
   pub limit : settings.limit ≡ options.line_length_limit
-  pub parts : settings.parts ≡ parts_of_profile options.profile
+  pub parts : record settings.parts { handed = None } ≡ parts_of_profile options.profile
+  pub handed : names_handed settings ≡ names
 
--- the settings that options choose, or none where one isn't in its range
-abbrev pub SetsIf : RstOptions → Option Settings → Type 0
-SetsIf options None = are_in_range options ≡ false
-SetsIf options (Some settings) = SetsOptions options settings
+-- the settings that options choose with names that are handed back, or none where an option isn't in its range
+abbrev pub SetsIf : RstOptions → Option (List ℕ) → Option Settings → Type 0
+SetsIf options names None = are_in_range options ≡ false
+SetsIf options names (Some settings) = SetsOptions options names settings
+
+-- the same of names that may not be UTF-8; then there are no settings
+abbrev pub SetsHandingIf : RstOptions → List ℕ → Option Settings → Type 0
+SetsHandingIf options names result = (is_utf8 names ≡ true → SetsIf options (Some names) result) × (is_utf8 names ≡ false → result ≡ None)

@@ -1,6 +1,6 @@
 //! The document of a text, and what is made of it.
 ghost use Rattle.std.specs.Prelude.{◌≡◌, ◌≤◌, IfOk, filter, map};
-ghost use Rattle.rst_c.specs.Answers.{bytes_as, form_wanted, made_of, print_wanted, Finds, MakesWanted};
+ghost use Rattle.rst_c.specs.Answers.{bytes_as, form_wanted, made_of, parse_wanted, parsed_json, print_wanted, Finds, FindsParsed, MakesWanted};
 ghost use Rattle.rst_json.specs.Json.{json_array, json_note};
 ghost use Rattle.rst_transform_messages.specs.Messages.{highest_level};
 ghost use Rattle.rst2pseudoxml_run.specs.RunResult as run_result;
@@ -11,8 +11,9 @@ use rst_settings::Settings;
 use rst_text::Counted;
 use rst_transform::Finished;
 use rst_tree::Note;
+use rst_tree_index::Parsed;
 use rst2pseudoxml_options::Format;
-use rst2pseudoxml_run::{End, document_of, halting, is_reported, show, status_of};
+use rst2pseudoxml_run::{End, document_of, halting, is_reported, parsed_of, show, status_of};
 use std::alloc::{AllocError, Global};
 
 /// What the program prints for a text.
@@ -85,6 +86,45 @@ pub fn formed(
     }
 }
 
+/// What is parsed of a text as JSON: the document before the transforms, with the attributes that serve them.
+pub fn parsed(alloc: Global, text: &[u8], settings: Option<Settings>) -> Result<Made, Refusal>
+    ensures { MakesWanted (parse_wanted settings text.now) (made_of result) }
+{
+    let Some(settings) = settings else {
+        return Err(Refusal::Options);
+    };
+    let parsed = parsed_tree(alloc, text, &settings)?;
+    match parsed_json(alloc, &parsed) {
+        Ok(bytes) => Ok(Made {
+            tree: Counted::of(bytes),
+            messages: Counted::of(Vec::new(alloc)),
+            status: 0,
+        }),
+        Err(_) => Err(Refusal::Text(End::NoMemory)),
+    }
+}
+
+/// What is parsed of a text.
+fn parsed_tree(alloc: Global, text: &[u8], settings: &Settings) -> Result<Parsed, End>
+    ensures { FindsParsed settings.now text.now result }
+{
+    if text.len() <= 16_777_216 {
+        let (parsed, _) = parsed_of(alloc, settings, Vec::from_slice(alloc, text)?)?;
+        Ok(parsed)
+    } else {
+        Err(End::TooLong)
+    }
+}
+
+/// The JSON of what was parsed.
+fn parsed_json(alloc: Global, parsed: &Parsed) -> Result<Vec<u8>, AllocError>
+    ensures { IfOk result (λ bytes. bytes.items ≡ parsed_json parsed.now.tree) }
+{
+    let mut bytes = Vec::new(alloc);
+    put_node(alloc, parsed.tree.root(), true, &mut bytes)?;
+    Ok(bytes)
+}
+
 /// The bytes of a form.
 fn bytes_as(
     alloc: Global,
@@ -97,7 +137,7 @@ fn bytes_as(
     let mut bytes = Vec::new(alloc);
     match form {
         Form::DocumentJson => {
-            put_node(alloc, finished.tree.root(), &mut bytes)?;
+            put_node(alloc, finished.tree.root(), false, &mut bytes)?;
             Ok(bytes)
         }
         Form::DocumentRecords => {

@@ -2,7 +2,7 @@
 #![tactic(auto)]
 
 ghost use Rattle.std.specs.Prelude.{◌≡◌};
-ghost use Rattle.rst_c.specs.Answers.{c_result_of, form_wanted, messages_after, print_wanted, tree_after, Answers};
+ghost use Rattle.rst_c.specs.Answers.{c_result_of, form_wanted, messages_after, parse_wanted, print_wanted, tree_after, Answers, AnswersHanding};
 ghost use Rattle.rst_c.specs.declared.document.Form.TheVariants.{DocumentJson, DocumentRecords, MessagesJson};
 
 mod answer;
@@ -11,7 +11,7 @@ mod options;
 pub mod rows;
 
 use answer::{RstResult, tell};
-use document::{Form, formed, printed};
+use document::{Form, formed, parsed, printed};
 use options::RstOptions;
 use std::alloc::Global;
 
@@ -71,6 +71,23 @@ pub extern "C" fn rst_records(
 {
     let made = formed(alloc, text, options.settings(), Form::DocumentRecords);
     *answer = tell(&made, records, &mut []);
+}
+
+/// What is parsed of a text as JSON, if it fits: the document before the transforms, in which directives and roles of these names are handed back.
+#[unsafe(no_mangle)]
+pub extern "C" fn rst_parse(
+    alloc: Global,
+    text: &[u8],
+    names: &'static [u8],
+    options: &RstOptions,
+    json: &mut [u8],
+    answer: &mut RstResult,
+)
+    ensures { AnswersHanding options.now names.now (λ settings. parse_wanted settings text.now)
+        (λ made. (answer.new ≡ c_result_of made) × (json.new ≡ tree_after made json.old)) }
+{
+    let made = parsed(alloc, text, options.settings_handing(names));
+    *answer = tell(&made, json, &mut []);
 }
 
 /// The messages on a text as JSON, if they fit: those that are reported, in their order.

@@ -1,7 +1,7 @@
 //! The options of a call.
-ghost use Rattle.std.specs.Prelude.{◌≡◌, ◌≤◌};
+ghost use Rattle.std.specs.Prelude.{◌≡◌, ◌≤◌, None};
 ghost use Rattle.rst_settings.specs.Threshold.{threshold_number};
-ghost use Rattle.rst_c.specs.Options.{is_within, are_in_range, parts_of_profile, SetsIf};
+ghost use Rattle.rst_c.specs.Options.{is_within, are_in_range, parts_of_profile, SetsHandingIf, SetsIf};
 
 use rst_settings::{Parts, Settings, Threshold};
 
@@ -34,7 +34,7 @@ pub struct RstOptions {
 impl RstOptions {
     /// The settings that the options choose, if each is in its range.
     pub fn settings(&self) -> Option<Settings>
-        ensures { SetsIf self.now result }
+        ensures { SetsIf self.now None result }
     {
         if !self.are_in_range() {
             return None;
@@ -49,6 +49,19 @@ impl RstOptions {
             limit: self.line_length_limit as usize,
             parts: parts_of_profile(self.profile),
         })
+    }
+
+    /// The settings that the options choose, with names that are handed back, if each is in its range and the names are UTF-8. Nothing of the
+    /// names outlives a call: they are `'static` since settings are copied into all that is made of lines.
+    pub fn settings_handing(&self, names: &'static [u8]) -> Option<Settings>
+        ensures { SetsHandingIf self.now names.now result }
+    {
+        let mut settings = self.settings()?;
+        let Ok(names) = str::from_utf8(names) else {
+            return None;
+        };
+        settings.parts.handed = Some(names);
+        Some(settings)
     }
 
     /// Whether each option is in its range.

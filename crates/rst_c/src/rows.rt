@@ -7,7 +7,7 @@ ghost use Rattle.rst_c.specs.Options.{are_in_range, SetsOptions};
 ghost use Rattle.rst_c.specs.Written.{made_wanted, usual_options};
 ghost use Rattle.rst_c.specs.declared.answer.Refusal.TheVariants.{Options, Source, Text};
 ghost use Rattle.rst_c.specs.declared.document.Form.TheVariants.{DocumentJson, DocumentRecords, MessagesJson};
-ghost use Rattle.rst_settings.specs.Parts.{all_parts};
+ghost use Rattle.rst_settings.specs.Parts.{all_parts, handing};
 ghost use Rattle.rst_settings.specs.declared.Threshold.TheVariants as threshold;
 ghost use Rattle.rst_tree.specs.Forest.{bare, element, words};
 ghost use Rattle.rst_tree.specs.declared.node.Node.TheVariants.{Element};
@@ -36,14 +36,15 @@ pub fn options()
 
 /// The settings that options choose (Header, 'rst_options').
 pub fn settings()
-    ensures usual { SetsOptions usual_options usual }
-    ensures levels { SetsOptions (record usual_options { report = 1; halt = 2; exit_status = 3 })
+    ensures usual { SetsOptions usual_options None usual }
+    ensures levels { SetsOptions (record usual_options { report = 1; halt = 2; exit_status = 3 }) None
         (record usual { report = threshold.Info; halt = threshold.Warning; exit = threshold.Error }) }
-    ensures higher_levels { SetsOptions (record usual_options { report = 4; halt = 5; exit_status = 1 })
+    ensures higher_levels { SetsOptions (record usual_options { report = 4; halt = 5; exit_status = 1 }) None
         (record usual { report = threshold.Severe; halt = threshold.Never; exit = threshold.Info }) }
-    ensures no_doc_title { SetsOptions (record usual_options { no_doc_title = 1 }) (record usual { title = false }) }
-    ensures no_doc_info { SetsOptions (record usual_options { no_doc_info = 1 }) (record usual { info = false }) }
-    ensures profile { SetsOptions (record usual_options { profile = 1 }) (record usual { parts = all_parts }) }
+    ensures no_doc_title { SetsOptions (record usual_options { no_doc_title = 1 }) None (record usual { title = false }) }
+    ensures no_doc_info { SetsOptions (record usual_options { no_doc_info = 1 }) None (record usual { info = false }) }
+    ensures profile { SetsOptions (record usual_options { profile = 1 }) None (record usual { parts = all_parts }) }
+    ensures handed { SetsOptions usual_options (Some (codes ":ref")) (record usual { parts = record (handing ":ref") { unmarked = false; marks = false; mail = false; roles = false; directives = false; keywords = false } }) }
 {}
 
 /// The result of each end (Header, 'rst_end').

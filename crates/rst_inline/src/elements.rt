@@ -45,7 +45,10 @@ pub fn handed(alloc: Global, kind: &str, name: &str, source: &str, line: usize) 
     let attrs = vec![in alloc;
         Entry::new(Key::Kind, Value::Text(Text::from_str(alloc, kind)?)),
         Entry::new(Key::Name, Value::Text(Text::from_str(alloc, name)?)),
-        Entry::new(Key::XmlSpace, Value::Text(Text::from_str(alloc, "preserve")?)),
+        Entry::new(
+            Key::XmlSpace,
+            Value::Text(Text::from_str(alloc, "preserve")?)
+        ),
     ]?;
     element(alloc, Tag::Handed, attrs, source, line)
 }

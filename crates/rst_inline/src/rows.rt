@@ -3,12 +3,12 @@
 #![tactic(auto, unfolding(crate::proofs::Computing::rst_inline))]
 
 ghost use Rattle.std.specs.Prelude.{◌≡◌, true, false, Some, None, codes, map, [], ◌∷◌};
-ghost use Rattle.rst_inline.specs.Reads.{Shows, ShowsWider};
+ghost use Rattle.rst_inline.specs.Reads.{Shows, ShowsBy, ShowsWider};
 ghost use Rattle.rst_inline.specs.Results.{nodes_from, notes_of};
 ghost use Rattle.rst_inline.specs.Roles.{is_wider_role, role_named};
 ghost use Rattle.rst_inline.specs.declared.roles.Role.TheVariants as Role;
 ghost use Rattle.rst_inline_scan.specs.Reading.{pieces_of};
-ghost use Rattle.rst_settings.specs.Parts.{no_parts};
+ghost use Rattle.rst_settings.specs.Parts.{handing, no_parts};
 ghost use Rattle.rst_tree.specs.Forest.{bare, words};
 ghost use Rattle.rst_tree.specs.declared.node.Node.TheVariants.{Element};
 ghost use Rattle.rst_tree.specs.declared.tag.Tag.TheVariants.{Emphasis, Strong, Literal, Subscript, Superscript, TitleReference};
@@ -46,6 +46,22 @@ pub fn wider_roles()
     ensures not_asked_for { Shows ":pep:`8`" ("<problematic message=\"0\">" ∷ "    :pep:`8`" ∷ "ERROR: Unknown interpreted text role \"pep\"." ∷ []) }
     ensures alone { map is_wider_role (codes "pep" ∷ codes "Sub" ∷ codes "MATH" ∷ codes "target" ∷ []) ≡ true ∷ true ∷ true ∷ true ∷ [] }
     ensures both { map is_wider_role (codes "sub" ∷ codes "t" ∷ codes "m" ∷ codes "" ∷ []) ≡ false ∷ false ∷ false ∷ false ∷ [] }
+{}
+
+/// Roles that are handed back, also one that the profile knows (docs/LIBRARY.md, 'Directives and roles handed back').
+pub fn handed_roles()
+    ensures before_and_after { ShowsBy (handing ":ref\n:PY:func") ":Ref:`x\\ y` `z`:py:func:"
+        ("<handed kind=\"role\" name=\"Ref\" xml:space=\"preserve\">" ∷ "    :Ref:`x\\ y`" ∷ " "
+        ∷ "<handed kind=\"role\" name=\"py:func\" xml:space=\"preserve\">" ∷ "    `z`:py:func:" ∷ []) }
+    ensures known { ShowsBy (handing ":emphasis") ":emphasis:`a` :strong:`b`"
+        ("<handed kind=\"role\" name=\"emphasis\" xml:space=\"preserve\">" ∷ "    :emphasis:`a`" ∷ " " ∷ "<strong>" ∷ "    b" ∷ []) }
+    ensures default_role { ShowsBy (handing ":") "`a` `b`_"
+        ("<handed kind=\"role\" name=\"\" xml:space=\"preserve\">" ∷ "    `a`" ∷ " "
+        ∷ "<reference name=\"b\" rawsource=\"`b`_\" refname=\"b\">" ∷ "    b" ∷ []) }
+    ensures no_directive { ShowsBy (handing "m\n:r") ":m:`x`"
+        ("<problematic message=\"0\">" ∷ "    :m:`x`" ∷ "ERROR: Unknown interpreted text role \"m\"." ∷ []) }
+    ensures faults { ShowsBy (handing ":r") ":r:`x`_"
+        ("<problematic message=\"0\">" ∷ "    :r:`x`_" ∷ "WARNING: Mismatch: both interpreted text role and reference suffix." ∷ []) }
 {}
 
 /// References by the number of a document (Roles, 'Standard Roles').

@@ -1,12 +1,12 @@
 -- JSON that is put piece by piece.
-use Rattle.std.proofs.Common.{◌≡◌, ℕ, ◌+◌, ◌<◌, ◌≤◌, List, [], ◌∷◌, ◌++◌, length, take, drop, get_or, true, false, None, Result, Ok, Err, refl, sym, ap, ◌∙◌, append_assoc, add-one}
+use Rattle.std.proofs.Common.{◌≡◌, ℕ, ◌+◌, ◌<◌, ◌≤◌, List, [], ◌∷◌, ◌++◌, length, take, drop, get_or, Bool, true, false, None, Result, Ok, Err, refl, sym, ap, ◌∙◌, append_assoc, add-one}
 use Rattle.std.proofs.lemmas.List.{flat_map_more, take_more, take_all, take_at}
 use Rattle.std.proofs.lemmas.List.Folds.{flat_map-map}
 use Rattle.std.specs.Fmt.{decimal}
 use Rattle.std.specs.List.{flat_map, list_any}
 use Rattle.std.specs.Prelude.{Bool, ◌||◌, ◌==◌, nat_lt, if◌then◌else◌, map, codes}
 use Rattle.std.proofs.lemmas.Bool.{or_parts}
-use Rattle.rst_json.specs.Json.{Adds, after_comma, control, json_byte, needs_json_escape, json_attr, json_block, json_node, json_nodes, json_note, json_object, json_string, comma_separated}
+use Rattle.rst_json.specs.Json.{Adds, after_comma, control, json_byte, needs_json_escape, json_attr_of, json_block, json_node_of, json_nodes_of, json_note, json_object, json_string, comma_separated}
 use Rattle.rst_tree.proofs.PrintedParts.{flat_map-flat_map}
 use Rattle.rst_tree.specs.declared.attrs.Attr.{Attr}
 use Rattle.rst_tree.specs.declared.node.Node.{Node}
@@ -60,28 +60,29 @@ enclosed items old out new start left right (Err fault) is begins adds = tt
 pub items_of_texts : (ts : List (List ℕ)) (i : ℕ) → length ts ≤ i → flat_map (λ t. after_comma (json_string t)) (take i ts) ≡ flat_map after_comma (map json_string ts)
 items_of_texts ts i all = rw (take_all i ts all) (sym (flat_map-map after_comma json_string ts))
 
-pub items_of_attrs : (attrs : List Attr) (i : ℕ) → length attrs ≤ i
-    → flat_map (λ a. flat_map after_comma (json_attr a)) (take i attrs) ≡ flat_map after_comma (flat_map json_attr attrs)
-items_of_attrs attrs i all = rw (take_all i attrs all) (sym (flat_map-flat_map after_comma json_attr attrs))
+pub items_of_attrs : (hidden : Bool) (attrs : List Attr) (i : ℕ) → length attrs ≤ i
+    → flat_map (λ a. flat_map after_comma (json_attr_of hidden a)) (take i attrs) ≡ flat_map after_comma (flat_map (json_attr_of hidden) attrs)
+items_of_attrs hidden attrs i all = rw (take_all i attrs all) (sym (flat_map-flat_map after_comma (json_attr_of hidden) attrs))
 
 -- nodes, node by node
-pub nodes_one_by_one : (ns : List Node) → json_nodes (all_with_printed_attrs None (forest_of ns)) ≡ flat_map (λ n. after_comma (json_node (with_printed_attrs None n))) ns
-nodes_one_by_one [] = refl
-nodes_one_by_one (Element t a c l ∷ ns) = rw (nodes_one_by_one ns) refl
-nodes_one_by_one (Text t ∷ ns) = rw (nodes_one_by_one ns) refl
+pub nodes_one_by_one : (hidden : Bool) (ns : List Node)
+    → json_nodes_of hidden (all_with_printed_attrs None (forest_of ns)) ≡ flat_map (λ n. after_comma (json_node_of hidden (with_printed_attrs None n))) ns
+nodes_one_by_one hidden [] = refl
+nodes_one_by_one hidden (Element t a c l ∷ ns) = rw (nodes_one_by_one hidden ns) refl
+nodes_one_by_one hidden (Text t ∷ ns) = rw (nodes_one_by_one hidden ns) refl
 
 -- an element, piece by piece
 pieces : (o a b c d e f g h : List ℕ) → (((((((o ++ a) ++ b) ++ c) ++ d) ++ e) ++ f) ++ g) ++ h ≡ o ++ (a ++ b ++ c ++ d ++ e ++ f ++ g ++ h)
 pieces o a b c d e f g h = simp append_assoc
 
-pub element_put : (node : Node) (old name : List ℕ) (t : Tag) (a : List Attr) (c : Forest) (l : ℕ) (ns : List Node) (i : ℕ)
+pub element_put : (hidden : Bool) (node : Node) (old name : List ℕ) (t : Tag) (a : List Attr) (c : Forest) (l : ℕ) (ns : List Node) (i : ℕ)
     → node ≡ Element t a c l → c ≡ forest_of ns → length ns ≤ i → name ≡ tag_name t
-    → (((((((old ++ 91 ∷ []) ++ json_string name) ++ 44 ∷ []) ++ decimal l) ++ 44 ∷ []) ++ json_object (flat_map json_attr (printed_attrs None t a l)))
-    ++ flat_map (λ n. after_comma (json_node (with_printed_attrs None n))) (take i ns)) ++ 93 ∷ [] ≡ old ++ json_node (with_printed_attrs None node)
-element_put node old name t a c l ns i is nodes all named =
-    rw (is, nodes, named, take_all i ns all, ← nodes_one_by_one ns)
-    (pieces old (codes "[") (json_string (tag_name t)) (codes ",") (decimal l) (codes ",") (json_object (flat_map json_attr (printed_attrs None t a l)))
-    (json_nodes (all_with_printed_attrs None (forest_of ns))) (codes "]"))
+    → (((((((old ++ 91 ∷ []) ++ json_string name) ++ 44 ∷ []) ++ decimal l) ++ 44 ∷ []) ++ json_object (flat_map (json_attr_of hidden) (printed_attrs None t a l)))
+    ++ flat_map (λ n. after_comma (json_node_of hidden (with_printed_attrs None n))) (take i ns)) ++ 93 ∷ [] ≡ old ++ json_node_of hidden (with_printed_attrs None node)
+element_put hidden node old name t a c l ns i is nodes all named =
+    rw (is, nodes, named, take_all i ns all, ← nodes_one_by_one hidden ns)
+    (pieces old (codes "[") (json_string (tag_name t)) (codes ",") (decimal l) (codes ",") (json_object (flat_map (json_attr_of hidden) (printed_attrs None t a l)))
+    (json_nodes_of hidden (all_with_printed_attrs None (forest_of ns))) (codes "]"))
 
 -- a message, piece by piece
 members : (o a d b e c f g h k z : List ℕ)

@@ -1,5 +1,5 @@
 -- Trees and messages as JSON (RFC 8259): docs/LIBRARY.md has examples.
-use Rattle.std.specs.Prelude.{◌≡◌, ℕ, ◌+◌, ◌/◌, ◌%◌, Bool, ◌||◌, ◌==◌, nat_lt, if◌then◌else◌, List, [], ◌∷◌, ◌++◌, map, Option, None, Some, Result, Ok, Err, codes}
+use Rattle.std.specs.Prelude.{◌≡◌, ℕ, ◌+◌, ◌/◌, ◌%◌, Bool, false, not, ◌&&◌, ◌||◌, ◌==◌, nat_lt, if◌then◌else◌, List, [], ◌∷◌, ◌++◌, map, Option, None, Some, Result, Ok, Err, codes}
 use Rattle.std.specs.Fmt.{decimal}
 use Rattle.std.specs.List.{flat_map}
 use Rattle.rst_tree.specs.declared.attrs.Attr.{Attr}
@@ -58,25 +58,39 @@ json_value (Text text) = json_string text
 json_value (Number number) = decimal number
 json_value (Listed texts) = json_array (map json_string texts)
 
+-- an attribute, of all or, unless `all` is true, of those that are printed
+abbrev pub json_attr_of : Bool → Attr → List (List ℕ)
+json_attr_of all a = if not all && is_left_out a then [] else json_member (key_name a.key) (json_value a.value) ∷ []
+
 -- an attribute, unless it isn't printed
 abbrev pub json_attr : Attr → List (List ℕ)
-json_attr a = if is_left_out a then [] else json_member (key_name a.key) (json_value a.value) ∷ []
+json_attr a = json_attr_of false a
 
 -- an element with the JSON of its nodes, each after a comma
-abbrev pub json_element : Tag → List Attr → ℕ → List ℕ → List ℕ
-json_element tag attrs line nodes =
-    codes "[" ++ json_string (tag_name tag) ++ codes "," ++ decimal line ++ codes "," ++ json_object (flat_map json_attr attrs) ++ nodes ++ codes "]"
+abbrev pub json_element_of : Bool → Tag → List Attr → ℕ → List ℕ → List ℕ
+json_element_of all tag attrs line nodes =
+    codes "[" ++ json_string (tag_name tag) ++ codes "," ++ decimal line ++ codes "," ++ json_object (flat_map (json_attr_of all) attrs) ++ nodes ++ codes "]"
 
 -- nodes, each after a comma
-abbrev pub json_nodes : Forest → List ℕ
-json_nodes bare = []
-json_nodes (element tag attrs inside line rest) = after_comma (json_element tag attrs line (json_nodes inside)) ++ json_nodes rest
-json_nodes (words text rest) = after_comma (json_string text) ++ json_nodes rest
+abbrev pub json_nodes_of : Bool → Forest → List ℕ
+json_nodes_of all bare = []
+json_nodes_of all (element tag attrs inside line rest) = after_comma (json_element_of all tag attrs line (json_nodes_of all inside)) ++ json_nodes_of all rest
+json_nodes_of all (words text rest) = after_comma (json_string text) ++ json_nodes_of all rest
 
--- a node
+-- a node, with all attributes or with those that are printed
+abbrev pub json_node_of : Bool → Node → List ℕ
+json_node_of all (Element tag attrs inside line) = json_element_of all tag attrs line (json_nodes_of all inside)
+json_node_of all (Words text) = json_string text
+
+-- the same with the attributes that are printed
+abbrev pub json_element : Tag → List Attr → ℕ → List ℕ → List ℕ
+json_element tag attrs line nodes = json_element_of false tag attrs line nodes
+
+abbrev pub json_nodes : Forest → List ℕ
+json_nodes f = json_nodes_of false f
+
 abbrev pub json_node : Node → List ℕ
-json_node (Element tag attrs inside line) = json_element tag attrs line (json_nodes inside)
-json_node (Words text) = json_string text
+json_node node = json_node_of false node
 
 -- the source text of a message, if it has one
 abbrev pub json_block : Option (List ℕ) → List (List ℕ)

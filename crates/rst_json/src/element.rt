@@ -1,7 +1,7 @@
 //! Elements with their attributes, and texts.
 
 ghost use Rattle.std.specs.Prelude.{◌≡◌, map, None, Some, flat_map, IfOk};
-ghost use Rattle.rst_json.specs.Json.{Adds, after_comma, json_array, json_attr, json_node, json_object, json_string};
+ghost use Rattle.rst_json.specs.Json.{Adds, after_comma, json_array, json_attr_of, json_node_of, json_object, json_string};
 ghost use Rattle.rst_tree.specs.KeyNames.{key_name};
 ghost use Rattle.rst_tree.specs.PrintedAttributes.{printed_attrs, with_printed_attrs};
 ghost use Rattle.rst_tree.specs.declared.tag.Tag.TheVariants.{SystemMessage};
@@ -11,10 +11,10 @@ use crate::string::{put_number, put_string};
 use rst_tree::{Attrs, Entry, Key, Level, Node, Result, Tag, Text, Value, ValueRef};
 use std::alloc::Global;
 
-/// Puts a node: a text as a string, an element as an array of its tag, its line, an object of the attributes that it is printed with, and
-/// its nodes.
-pub fn put_node(alloc: Global, node: &Node, out: &mut Vec<u8>) -> Result<()>
-    ensures { Adds out.old.items out.new.items (json_node (with_printed_attrs None node.now)) result }
+/// Puts a node: a text as a string, an element as an array of its tag, its line, an object of its attributes, and its nodes. The attributes
+/// are those that it is printed with or, if `all` is true, also those that serve the transforms alone.
+pub fn put_node(alloc: Global, node: &Node, all: bool, out: &mut Vec<u8>) -> Result<()>
+    ensures { Adds out.old.items out.new.items (json_node_of all (with_printed_attrs None node.now)) result }
 {
     match node {
         Node::Text(text) => put_string(text.as_bytes(), out),
@@ -29,10 +29,10 @@ pub fn put_node(alloc: Global, node: &Node, out: &mut Vec<u8>) -> Result<()>
             out.push(b',')?;
             put_number(*line as u64, out)?;
             out.push(b',')?;
-            put_printed_attrs(alloc, *tag, attrs, *line, out)?;
+            put_printed_attrs(alloc, *tag, attrs, *line, all, out)?;
             for child in children.as_slice() {
                 out.push(b',')?;
-                put_node(alloc, child, out)?;
+                put_node(alloc, child, all, out)?;
             }
             out.push(b']')?;
             Ok(())
@@ -46,13 +46,14 @@ fn put_printed_attrs(
     tag: Tag,
     attrs: &Attrs,
     line: usize,
+    all: bool,
     out: &mut Vec<u8>,
 ) -> Result<()>
-    ensures { Adds out.old.items out.new.items (json_object (flat_map json_attr (printed_attrs None tag attrs.now line))) result }
+    ensures { Adds out.old.items out.new.items (json_object (flat_map (json_attr_of all) (printed_attrs None tag attrs.now line))) result }
 {
     match tag {
-        Tag::SystemMessage => put_attrs(message_attrs(alloc, attrs, line)?.as_slice(), out),
-        _ => put_attrs(attrs.as_slice(), out),
+        Tag::SystemMessage => put_attrs(message_attrs(alloc, attrs, line)?.as_slice(), all, out),
+        _ => put_attrs(attrs.as_slice(), all, out),
     }
 }
 
@@ -69,22 +70,22 @@ pub fn message_attrs(alloc: Global, attrs: &Attrs, line: usize) -> Result<Attrs>
     Ok(printed)
 }
 
-/// Puts an object of the attributes, without those that aren't printed.
-fn put_attrs(attrs: &[Entry], out: &mut Vec<u8>) -> Result<()>
-    ensures { Adds out.old.items out.new.items (json_object (flat_map json_attr attrs.now)) result }
+/// Puts an object of all attributes, or of those that are printed.
+fn put_attrs(attrs: &[Entry], all: bool, out: &mut Vec<u8>) -> Result<()>
+    ensures { Adds out.old.items out.new.items (json_object (flat_map (json_attr_of all) attrs.now)) result }
 {
     let start = out.len();
     for attr in attrs {
-        put_attr(attr, out)?;
+        put_attr(attr, all, out)?;
     }
     enclose(start, b'{', b'}', out)
 }
 
-/// Puts an attribute after a comma, unless it isn't printed.
-fn put_attr(attr: &Entry, out: &mut Vec<u8>) -> Result<()>
-    ensures { Adds out.old.items out.new.items (flat_map after_comma (json_attr attr.now)) result }
+/// Puts an attribute after a comma, unless it isn't printed and not all are put.
+fn put_attr(attr: &Entry, all: bool, out: &mut Vec<u8>) -> Result<()>
+    ensures { Adds out.old.items out.new.items (flat_map after_comma (json_attr_of all attr.now)) result }
 {
-    if attr.is_left_out() {
+    if !all && attr.is_left_out() {
         return Ok(());
     }
     out.push(b',')?;

@@ -1,6 +1,7 @@
 -- The parts of the wider profile: what is read otherwise than in the base, each where it is asked for; and the directives and roles that are
 -- handed back.
-use Rattle.std.specs.Prelude.{ℕ, Bool, true, false, ◌&&◌, ◌==◌, List, drop, slice_index, None}
+use Prim.Native.String.{String}
+use Rattle.std.specs.Prelude.{ℕ, Bool, true, false, ◌&&◌, ◌==◌, List, codes, drop, slice_index, None, Some}
 use Rattle.std.specs.List.{list_any, slice_split}
 use Rattle.std.specs.Option.{option_map_or}
 use Rattle.std.specs.Str.{str_eq_ignore_ascii_case}
@@ -13,6 +14,10 @@ no_parts = record { marks = false; mail = false; roles = false; directives = fal
 -- every part is asked for, and no name is handed back
 abbrev pub all_parts : Parts
 all_parts = record { marks = true; mail = true; roles = true; directives = true; unmarked = true; keywords = true; handed = None }
+
+-- every part is asked for, and these names are handed back, for worked examples
+abbrev pub handing : String → Parts
+handing names = record all_parts { handed = Some (record { ref_ptr = (0, 0); now = codes names }) }
 
 -- the names that are handed back, each a line
 abbrev pub name_lines : List ℕ → List (List ℕ)

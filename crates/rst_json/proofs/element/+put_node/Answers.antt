@@ -2,7 +2,7 @@ use Rattle.std.proofs.Common.{rules, ◌≤◌, arith, ◌+◌, ◌∙◌, appen
 use Rattle.rst_tree.specs.Nodes.{node_height}
 use Rattle.rst_tree.specs.PrintedAttributes.{with_printed_attrs}
 use Rattle.rst_tree.proofs.PrintedParts.{child_height}
-use Rattle.rst_json.specs.Json.{after_comma, json_node}
+use Rattle.rst_json.specs.Json.{after_comma, json_node_of}
 use Rattle.rst_json.proofs.JsonLemmas.{element_put, next_item}
 use Rattle.rst_json.proofs.element.+put_node.Goals as goal
 
@@ -15,7 +15,7 @@ put_node-requires t c =
 
 pub loop-child-preserved : goal.loop-child-preserved
 loop-child-preserved t c =
-    next_item (λ n. after_comma (json_node (with_printed_attrs None n))) c.as_slice-child-items.result.now c.loop-child.child-index c.child-item.result _ c.loop-child.out.items _
+    next_item (λ n. after_comma (json_node_of c.args.all (with_printed_attrs None n))) c.as_slice-child-items.result.now c.loop-child.child-index c.child-item.result _ c.loop-child.out.items _
     c.child-item.is (omega arith) c.loop-child.invariant
     (c.in_ok-put_node-in-Element.ensures ∙ rw c.in_ok-push-in-Element-4.ensures.items (simp append_assoc))
 
@@ -31,5 +31,5 @@ returns-in_ok-push-in-Element-5 t c =
       c.in_ok-put_string-in-Element.ensures,
       c.in_ok-push-in-Element.ensures.items,
     )
-    (element_put c.args.node.now c.args.out.now.items c.as_bytes-in-Element.result.now c.in-Element.tag c.in-Element.attrs c.in-Element.children c.in-Element.line
+    (element_put c.args.all c.args.node.now c.args.out.now.items c.as_bytes-in-Element.result.now c.in-Element.tag c.in-Element.attrs c.in-Element.children c.in-Element.line
     c.as_slice-child-items.result.now c.loop-child.child-index c.in-Element.is c.as_slice-child-items.ensures c.loop-child-test.false (c.as_bytes-in-Element.ensures.value ∙ c.name.ensures))

@@ -5,8 +5,7 @@ use Rattle.std.specs.Str.{IsCharBoundary}
 use Rattle.std.proofs.lemmas.Bool.Decides.{nat_tests}
 use Rattle.std.proofs.lemmas.Str.{IsCharBoundary-after_ascii}
 use Rattle.std.proofs.lemmas.Str.Ascii.{trim_ascii_end_is}
-use Rattle.rst_markup_directives.specs.Kind.{is_wider_directive}
-use Rattle.rst2pseudoxml_run.proofs.marks.ends_with_directive.Goals as goal
+use Rattle.rst2pseudoxml_run.proofs.marks.last_word.Goals as goal
 
 -- a white character of ASCII takes one byte
 low : (b : ℕ) → is_ascii_whitespace b ≡ true → b < 128
@@ -29,4 +28,4 @@ returns c =
     let word : c.range_from.result.now ≡ after_last is_ascii_whitespace c.as_bytes.result.now =
     c.range_from.ensures.value ∙ ap (λ n. drop n c.trim_ascii_end-text.result.now) c.word_start.ensures.value
     ∙ ap (drop (length c.as_bytes.result.now - suffix_len (λ (b : ℕ). not (is_ascii_whitespace b)) c.as_bytes.result.now)) (sym c.as_bytes.ensures.value) in
-    c.is_wider_directive.ensures ∙ ap is_wider_directive (word ∙ ap (after_last is_ascii_whitespace) kept)
+    word ∙ ap (after_last is_ascii_whitespace) kept
