@@ -38,7 +38,7 @@ SECTIONS = {
     "Configuration": """docinfo_xform; doctitle_xform; exit_status_level; halt_level; input_encoding; line_length_limit; report_level; tab_width""",
     # pages of this repository, and its header
     "The command line": "Options; Faults; The options of rst-tree",
-    "JSON": "The document; The messages; Strings",
+    "JSON": "The document; The parsed document; Directives and roles handed back; The messages; Strings",
     "Records": "Nodes and attributes",
     "Header": "rst_options; rst_end; rst_print; rst_json; rst_messages",
 }

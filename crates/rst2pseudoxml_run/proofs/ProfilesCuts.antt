@@ -9,7 +9,7 @@ use Rattle.rst_markup_blocks.specs.declared.forms.Explicit.{Explicit}
 use Rattle.rst_markup_blocks.specs.declared.forms.Explicit.TheVariants.{Footnote, Citation, Substitution, Directive}
 use Rattle.rst_markup_blocks.specs.declared.lines.LineTest.TheVariants.{Blank}
 use Rattle.rst_markup_blocks.specs.declared.part.Part.{Part}
-use Rattle.rst_markup_directives.specs.Directive.{Outcome, found, wrong}
+use Rattle.rst_markup_directives.specs.Directive.{Outcome, found, handed, wrong}
 use Rattle.rst_markup_directives.specs.Kind.{has_blocks}
 use Rattle.rst_markup_directives.specs.declared.found.Content.{Content}
 use Rattle.rst_markup_directives.specs.declared.found.Place.TheVariants.{Top, Body, Substitution as InDefinition}
@@ -60,6 +60,7 @@ content_free B content free = (part_free_in B content.first free, (part_free_in 
 
 directive_free : (o : Outcome) (B : Block) → IsWithoutCode B → AreFree (directive_blocks o B)
 directive_free (found read) B free = chosen AreFree (has_blocks read.kind.content) (content_blocks B read.content) [] (content_free B read.content free) tt
+directive_free handed B free = tt
 directive_free (wrong fault part) B free = tt
 
 markup_free : (markup : Explicit) (c : Within) (B : Block) (i : ℕ) → IsWithoutCode B → AreFree (markup_blocks markup c B i)

@@ -15,7 +15,7 @@ use Rattle.rst_markup_blocks.specs.declared.forms.Explicit.TheVariants.{Footnote
 use Rattle.rst_markup_blocks.specs.declared.forms.Invocation.{Invocation}
 use Rattle.rst_markup_blocks.specs.declared.part.Part.{Part}
 use Rattle.rst_markup_directives.specs.Argument.{ArgumentMeaning, title, uri}
-use Rattle.rst_markup_directives.specs.Directive.{Read, Outcome, directive_at, found, wrong}
+use Rattle.rst_markup_directives.specs.Directive.{Read, Outcome, directive_at, found, handed, wrong}
 use Rattle.rst_markup_directives.specs.Kind.{has_blocks}
 use Rattle.rst_markup_directives.specs.declared.found.Content.{Content}
 use Rattle.rst_markup_directives.specs.declared.kind.ContentKind.{ContentKind}
@@ -29,7 +29,7 @@ use Rattle.rst_markup_tables.specs.declared.results.TableResult.{TableResult}
 use Rattle.rst_markup_tables.specs.declared.results.TableResult.TheVariants.{Table, Malformed}
 use Rattle.rst_block_nodes.specs.Sections.{filled}
 use Rattle.rst_block_state.specs.Constructs.{ItemMark, definition_item, field_item, Construct, block_quote, item_of_list, grid, simple, explicit_markup, Found}
-use Rattle.rst_block_state.specs.Directives.{content_nodes, called, titled_start, opened_by as opened_nodes, directive_by, definition_or_error, closed_with, content_lines}
+use Rattle.rst_block_state.specs.Directives.{content_nodes, called, is_handed_at, titled_start, opened_by as opened_nodes, directive_by, definition_or_error, closed_with, content_lines}
 use Rattle.rst_block_state.specs.Inside.{quoted_by, quoted, part_of_item, content_blocks, directive_blocks, markup_blocks, opened_by, opened_of, cell_blocks, cells_by, cells_with}
 use Rattle.rst_block_state.specs.LineRuns.{IndentedLine, line_block, verse_lines}
 use Rattle.rst_block_state.specs.Lists.{item_by, item_with}
@@ -177,16 +177,19 @@ module _ (all code later titles : Bool) (levels more : ℕ) (nest : NestAlike al
 
   directive_alike : (o : Outcome) (B : Block) (s : Span) (name : List ℕ) (n : ℕ) → Inside (directive_blocks o B) → Alike all (directive_by o c B s name n) (directive_by o d B s name n)
   directive_alike (found read) B s name n i = blocks_alike B read.content _ _ _ _ n (has_blocks read.kind.content) (opened_alike read.argument B (first_number (drop s.start B)) read _ n) (closed_alike read.kind.content B (first_number (drop s.start B)) read n) i
+  directive_alike handed B s name n i = alike all _
   directive_alike (wrong fault part) B s name n i = alike all _
 
   holding_alike : (o : Outcome) (B : Block) (s : Span) (name written : List ℕ) (n : ℕ) → Inside (directive_blocks o B) → Alike all (definition_or_error o c B s name written n) (definition_or_error o d B s name written n)
   holding_alike (found read) B s name written n i = blocks_alike B read.content _ _ _ _ n (has_blocks read.kind.content) (content_then B read.content _ n) (alike all _) i
+  holding_alike handed B s name written n i = alike all _
   holding_alike (wrong fault part) B s name written n i = alike all _
 
   -- ---- explicit markup
 
   same_call : (B : Block) (at : ℕ) (call : Invocation) (place : Place) → AgreesAt code later B at call → called c B at call place ≡ called d B at call place
-  same_call B at call place agree = agree place (is_single_paragraph (lines_in B call.block))
+  same_call B at call place agree =
+      ap (λ (o : Outcome). cond (is_handed_at B at call) handed o) (agree place (is_single_paragraph (lines_in B call.block)))
 
   definitions_alike : (o p : Outcome) → o ≡ p → (B : Block) (s : Span) (name written : List ℕ) (n : ℕ) → Inside (directive_blocks o B) → Alike all (definition_or_error o c B s name written n) (definition_or_error p d B s name written n)
   definitions_alike o p e B s name written n i = subst (λ q. Alike all (definition_or_error o c B s name written n) (definition_or_error q d B s name written n)) e (holding_alike o B s name written n i)

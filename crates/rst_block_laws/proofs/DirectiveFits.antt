@@ -278,10 +278,18 @@ module _ (P : ℕ → Bool) (T : List ℕ → Type 0) (s : Suited P T) (c : With
   shown_fits : (level : Level) (B : Block) (g : Span) (text : List ℕ) → BlockKept P B → T text → Gives (AllFit T (k + 2)) (just (message_with_lines level (first_number (drop g.start B)) text (span_source B g) ∷ []))
   shown_fits level B g text b h = give_one (message_fits T (k + 2) (omega arith) level (first_number (drop g.start B)) text (Some (span_source B g)) h (source_has P T s B g b))
 
+  -- a directive that is handed back, which may be in a substitution definition
+  handed_fits : (B : Block) (g : Span) (name : List ℕ) → BlockKept P B → ImageFits (handed_directive B g name)
+  handed_fits B g name b = elim (chars (span_source B g)) as (λ t. Kept P t → ImageFits (handed_node (codes "directive") name t (first_number (drop g.start B)))) [
+    | [] ↦ λ k. ((omega arith, ((tt, (tt, (tt, tt))), tt)), omega arith)
+    | c ∷ cs ↦ λ k. ((omega arith, ((tt, (tt, (tt, tt))), (s.encoded (c ∷ cs) k, tt))), omega arith)
+  ] (s.decoded (span_source B g) (source_has P T s B g b))
+
   pub directive_fits : (B : Block) (g : Span) (call : Invocation) → BlockKept P B → Gives (AllFit T (k + 2)) (directive_nodes c B g call)
   directive_fits B g call b =
       called_has P T s c B g.start call _ b (λ o. Gives (AllFit T (k + 2)) (directive_by o c B g (excerpt (first_text (drop g.start B)) call.name)))
       (λ read h. right_fits B (first_number (drop g.start B)) read (span_source B g) b h (source_has P T s B g b))
+      (let own = handed_fits B g _ b in give_one (omega (arith, own.0.0), own.0.1))
       (λ fault part h. shown_fits (fault_level fault) B g _ b (fault_has fault _ h (excerpt_has P T s (first_text (drop g.start B)) call.name (first_kept P (drop g.start B) (all_drop _ g.start B b)))))
 
   -- ---- substitution definitions
@@ -306,4 +314,5 @@ module _ (P : ℕ → Bool) (T : List ℕ → Type 0) (s : Suited P T) (c : With
       let name : List ℕ = normalized (unescaped written) in
       called_has P T s c B g.start call Substitution b (λ o. Gives (AllFit T (k + 2)) (definition_or_error o c B g name (excerpt (first_text (drop g.start B)) call.name)))
       (λ read h. definition_fit B (first_number (drop g.start B)) name read (span_source B g) b h (normalized_has written n) (source_has P T s B g b))
+      (held_fit name _ _ (normalized_has written n) (handed_fits B g _ b))
       (λ fault part h. shown_fits (fault_level fault) B g _ b (fault_has fault _ h (elim fault as (λ f. T (faulty_name f name (excerpt (first_text (drop g.start B)) call.name))) [ not_in_substitution ↦ normalized_has written n | _ ↦ excerpt_has P T s (first_text (drop g.start B)) call.name (first_kept P (drop g.start B) (all_drop _ g.start B b)) ])))

@@ -1,5 +1,5 @@
 -- The element of a directive may hold any nodes, and what is read of its options consists of characters of its lines.
-use Rattle.std.proofs.Common.{ℕ, Bool, true, false, List, [], ◌∷◌, drop, Option, None, Some, Result, Ok, Err, option_map, refl, rules}
+use Rattle.std.proofs.Common.{ℕ, Bool, true, false, cond, List, [], ◌∷◌, drop, Option, None, Some, Result, Ok, Err, option_map, refl, rules}
 use Rattle.std.specs.Prelude.{◌&&◌, ◌||◌, MatchResult, encode_utf8_all, not, ok_or, option_and_then}
 use Rattle.std.specs.List.{AllByRecursion}
 use Rattle.std.specs.Option.{IfSome, option_or}
@@ -27,7 +27,7 @@ use Rattle.rst_markup_directives.specs.declared.kind.ContentKind.TheVariants.{Em
 use Rattle.rst_markup_directives.specs.declared.kind.Kind.{Kind}
 use Rattle.rst_markup_directives.specs.declared.option.OptionName.{OptionName}
 use Rattle.rst_markup_directives.specs.declared.option.OptionName.TheVariants.{File, Subtitle, Url}
-use Rattle.rst_markup_directives.specs.Directive.{Read, Outcome, classes_fault, directive_by_layout, directive_of, directive_outcome_at, found as right, judged_directive, of_block, read_at, read_block, read_parts, run_in, wrong}
+use Rattle.rst_markup_directives.specs.Directive.{Read, Outcome, classes_fault, directive_by_layout, directive_of, directive_outcome_at, found as right, handed, judged_directive, of_block, read_at, read_block, read_parts, run_in, wrong}
 use Rattle.rst_markup_directives.specs.Judgement.{content_fault, fault_by, fault_of_option, has_title, is_substitutable, option_fault, permitted, permitted_by, place_fault}
 use Rattle.rst_markup_directives.specs.Kind.{directive_named, directives, PartKind, if_on, is_on, is_text}
 use Rattle.rst_markup_directives.specs.Layout.{layout_of}
@@ -35,7 +35,7 @@ use Rattle.rst_markup_directives.specs.Lines.{first_run, joined_nonempty}
 use Rattle.rst_markup_directives.specs.Message.{wrong_text}
 use Rattle.rst_markup_directives.specs.Options.{OptionSetting, fields_in, settings_in}
 use Rattle.rst_markup_directives.specs.Wrong.{Fault, and_then, fault_in, inside, invalid_classes, many_arguments, option_block, unless}
-use Rattle.rst_block_state.specs.Directives.{called}
+use Rattle.rst_block_state.specs.Directives.{called, is_handed_at}
 use Rattle.rst_block_state.specs.Within.{Within}
 use Rattle.rst_tree_laws.specs.Texts.{BlockKept, Kept}
 use Rattle.rst_block_laws.proofs.DirectiveTexts.{ChoiceHas, FieldKept, Judged, fields_kept, found, groups_kept, nonempty_kept, settings_have, then_has}
@@ -139,13 +139,13 @@ module _ (P : ℕ → Bool) (T : List ℕ → Type 0) (s : Suited P T) where
   options_have titled (setting ∷ more) = either (fault_of_option titled setting.0) (option_fault titled more) (option_has titled setting.0) (options_have titled more)
 
   -- what holds of each right directive and of each wrong one
-  pub called_has : (c : Within) (B : Block) (i : ℕ) (call : Invocation) (place : Place) → BlockKept P B → (R : Outcome → Type 0) → ((read : Read) → ReadHas read → R (right read)) → ((fault : Fault) (part : Part) → FaultHas fault → R (wrong fault part)) → R (called c B i call place)
+  pub called_has : (c : Within) (B : Block) (i : ℕ) (call : Invocation) (place : Place) → BlockKept P B → (R : Outcome → Type 0) → ((read : Read) → ReadHas read → R (right read)) → R handed → ((fault : Fault) (part : Part) → FaultHas fault → R (wrong fault part)) → R (called c B i call place)
   unfolding directive_of permitted content_fault
-  called_has c B i call place b R good bad =
-      outcome _ _ (then_has BlockHas ReadHas FaultHas (judged_directive place _) _
+  called_has c B i call place b R good back bad =
+      either (is_handed_at B i call) (outcome _ _ (then_has BlockHas ReadHas FaultHas (judged_directive place _) _
       (then_has KindOpen BlockHas FaultHas (read_at B i call.block) _ (allowed_has _ _ (named_open _ _ c.code)) (λ kind any. block_has kind _ call.block _ any (lines_kept P B call.block b)))
       (λ read. judged read (option_fault (has_title read.argument) read.options) (option_or (fault_by read.kind.content _ _) (place_fault read.kind.allowed place)) (classes_fault read.argument) (options_have (has_title read.argument) read.options)
-      (either (fault_by read.kind.content _ _) (place_fault read.kind.allowed place) (content_has read.kind.content _ _) (place_has read.kind.allowed place)) (classes_have read.argument)))
+      (either (fault_by read.kind.content _ _) (place_fault read.kind.allowed place) (content_has read.kind.content _ _) (place_has read.kind.allowed place)) (classes_have read.argument))))
     where
       judged : (read : Read) (o p : Option DirectiveFault) (q : Option Fault) → IfSome (option_map fault_in o) FaultHas → IfSome (option_map fault_in p) FaultHas → (ArgumentHas read.argument → IfSome q FaultHas) → BlockHas read
           → MatchResult (unless (option_or (option_map fault_in (option_or o p)) q) (Ok read)) ReadHas FaultHas
@@ -157,3 +157,7 @@ module _ (P : ℕ → Bool) (T : List ℕ → Type 0) (s : Suited P T) where
       outcome : (source : Part) (r : Result Read Fault) → MatchResult r ReadHas FaultHas → R (directive_outcome_at source r)
       outcome source (Ok read) h = good read h
       outcome source (Err fault) h = bad fault source h
+
+      either : {o : Outcome} (h : Bool) → R o → R (cond h handed o)
+      either true known = back
+      either false known = known

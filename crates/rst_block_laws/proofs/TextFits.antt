@@ -3,6 +3,7 @@ use Rattle.std.proofs.Common.{◌≡◌, ℕ, ◌+◌, ◌-◌, ◌≤◌, Bool,
 use Rattle.std.specs.Prelude.{◌==◌, codes, unwrap_or}
 use Rattle.std.specs.List.{list_all, prefix_len}
 use Rattle.std.proofs.lemmas.Bool.{and_parts, cond_both}
+use Rattle.rst_settings.specs.Parts.{hands_role}
 use Rattle.rst_settings.specs.declared.Parts.{Parts}
 use Rattle.rst_text.specs.Characters.{Text}
 use Rattle.rst_text.specs.Escapes.{unescaped}
@@ -11,7 +12,7 @@ use Rattle.rst_tree.specs.declared.note.Level.{Level}
 use Rattle.rst_tree.specs.declared.note.Level.TheVariants.{Warning, Error}
 use Rattle.rst_tree.specs.declared.note.Note.{Note}
 use Rattle.rst_tree.specs.declared.tag.Tag.{Tag}
-use Rattle.rst_tree.specs.declared.tag.Tag.TheVariants.{Emphasis as IsEmphasis, Literal as IsLiteral, Problematic, Reference as IsReference, Strong as IsStrong, Math as IsMath, SubstitutionReference, Target as IsTarget, TitleReference}
+use Rattle.rst_tree.specs.declared.tag.Tag.TheVariants.{Emphasis as IsEmphasis, Handed as IsHanded, Literal as IsLiteral, Problematic, Reference as IsReference, Strong as IsStrong, Math as IsMath, SubstitutionReference, Target as IsTarget, TitleReference}
 use Rattle.rst_tree.specs.Forest.{Forest, bare, words}
 use Rattle.rst_tree.specs.Phrases.{phrase_text}
 use Rattle.rst_inline_scan.specs.declared.piece.Kind.{Kind}
@@ -26,7 +27,7 @@ use Rattle.rst_inline_scan.specs.Mail.{is_address}
 use Rattle.rst_inline.specs.Mail.{uri_of_address, mailed}
 use Rattle.rst_inline.specs.Numbers.{fragment_start, is_pep, is_rfc, pep_uri, rfc_number, rfc_uri, wrong_number}
 use Rattle.rst_inline.specs.Parts.{source, content, text_bytes}
-use Rattle.rst_inline.specs.Readings.{plain_reading, embedded_reading, phrase_reading_at, role_reading_by, prefix_role, suffix_role, has_prefix_role, interpreted_reading, reading_by, reading}
+use Rattle.rst_inline.specs.Readings.{plain_reading, embedded_reading, phrase_reading_at, handed_role, role_reading_by, prefix_role, suffix_role, has_prefix_role, interpreted_reading, reading_by, reading}
 use Rattle.rst_inline.specs.Results.{nodes_by, notes_by, number_after, nodes_from, notes_of}
 use Rattle.rst_inline.specs.Roles.{role_named}
 use Rattle.rst_inline.specs.declared.roles.Role.{Role}
@@ -84,6 +85,9 @@ module _ (P : ℕ → Bool) (T : List ℕ → Type 0) (s : Suited P T) (parts : 
 
     link_fits : (uri shown : Text) → Kept P shown → PieceFits (link_node (source t p) uri shown line ∷ []) []
     link_fits uri shown h = let w = held 1 IsReference shown h in (((w.0, ((s.encoded _ whole, (tt, tt)), w.1)), tt), tt)
+
+    handed_fits : (name : List ℕ) → MeaningFits nodes_by notes_by (handed_role name (source t p) line)
+    handed_fits name = let w = held 1 IsHanded (source t p) whole in (((w.0, ((tt, (tt, (tt, tt))), w.1)), tt), tt)
 
     -- the error on a text that is no number of a document
     number_wrong : (expected : List ℕ) (number : Text) → list_all is_fixed (expected ++ codes "; \"") ≡ true → Kept P number → MeaningFits nodes_by notes_by (wrong_number expected number)
@@ -145,10 +149,14 @@ module _ (P : ℕ → Bool) (T : List ℕ → Type 0) (s : Suited P T) (parts : 
 
     module _ (h : Kept P t) (within : Kept P (content t p)) (shown : Kept P (unescaped (content t p))) where
       interpreted_fits : (front : Bool) (suffix : Suffix) → MeaningFits nodes_by notes_by (interpreted_reading parts front suffix t p line)
-      interpreted_fits true Bare = role_fits (role_named parts.roles (text_bytes (prefix_role t p))) (prefix_role t p) _ (part_kept P t (p.from + 1) (p.content_from - 2) h) within shown
+      interpreted_fits true Bare =
+          cond_both (hands_role parts (text_bytes (prefix_role t p))) _ _ (MeaningFits nodes_by notes_by) (λ e. handed_fits _)
+          (λ e. role_fits (role_named parts.roles (text_bytes (prefix_role t p))) (prefix_role t p) _ (part_kept P t (p.from + 1) (p.content_from - 2) h) within shown)
       interpreted_fits true _ = wrong Warning _ (fixed_has P T s _ refl)
-      interpreted_fits false Bare = one TitleReference _ shown
-      interpreted_fits false RoleAfter = role_fits (role_named parts.roles (text_bytes (suffix_role t p))) (suffix_role t p) _ (part_kept P t (p.content_to + 2) (p.to - 1) h) within shown
+      interpreted_fits false Bare = cond_both (hands_role parts []) _ _ (MeaningFits nodes_by notes_by) (λ e. handed_fits []) (λ e. one TitleReference _ shown)
+      interpreted_fits false RoleAfter =
+          cond_both (hands_role parts (text_bytes (suffix_role t p))) _ _ (MeaningFits nodes_by notes_by) (λ e. handed_fits _)
+          (λ e. role_fits (role_named parts.roles (text_bytes (suffix_role t p))) (suffix_role t p) _ (part_kept P t (p.content_to + 2) (p.to - 1) h) within shown)
       interpreted_fits false suffix = phrase_fits suffix (content t p) (embedded_at (content t p)) within
 
       kind_fits : (k : Kind) → MeaningFits nodes_by notes_by (reading_by parts k t p line)

@@ -16,7 +16,7 @@ use Rattle.rst_markup_blocks.specs.declared.part.Part.{Part}
 use Rattle.rst_markup_directives.specs.Argument.{ArgumentMeaning, argument_of}
 use Rattle.rst_markup_directives.specs.Call.{called_at, part_of, content_block, content_of}
 use Rattle.rst_markup_directives.specs.Characters.{Text}
-use Rattle.rst_markup_directives.specs.Directive.{Read, Outcome, found, wrong, run_in, directive_options, read_parts, directive_by_layout, read_block, read_at, directive_outcome_at, fault_of, of_block, judged_directive, named_directive, source_lines_at, is_late, directive_of}
+use Rattle.rst_markup_directives.specs.Directive.{Read, Outcome, found, handed, wrong, run_in, directive_options, read_parts, directive_by_layout, read_block, read_at, directive_outcome_at, fault_of, of_block, judged_directive, named_directive, source_lines_at, is_late, directive_at, directive_of}
 use Rattle.rst_markup_directives.specs.Kind.{has_blocks, is_text, kept_columns}
 use Rattle.rst_markup_directives.specs.Layout.{begins_field, before_field, content_alone, parts_without_argument, layout_by, layout_at, layout_of}
 use Rattle.rst_markup_directives.specs.Lines.{blank_len, after_blank}
@@ -31,7 +31,7 @@ use Rattle.rst_markup_directives.specs.declared.kind.ContentKind.TheVariants.{Bl
 use Rattle.rst_markup_directives.specs.declared.kind.Kind.{Kind}
 use Rattle.rst_block_state.specs.looks.Budget.{sum_of}
 use Rattle.rst_block_state.specs.looks.BudgetLaws.{is_trimmed, IsFronted, HaveAtMostLines}
-use Rattle.rst_block_state.specs.Directives.{called}
+use Rattle.rst_block_state.specs.Directives.{called, is_handed_at}
 use Rattle.rst_block_state.specs.Inside.{content_blocks, directive_blocks}
 use Rattle.rst_block_state.specs.Paragraphs.{is_single_paragraph}
 use Rattle.rst_block_state.specs.Texts.{lines_in}
@@ -184,6 +184,7 @@ MayBeIn n B (Err w) = Unit {0}
 
 abbrev IsIn : ℕ → Block → Outcome → Type 0
 IsIn n B (found read) = HasBlocksIn n B read
+IsIn n B handed = Unit {0}
 IsIn n B (wrong fault source) = Unit {0}
 
 parts_in : (n : ℕ) (B : Block) (kind : Kind) (content : Content) (given : Result ArgumentMeaning Wrong) (choices : Result (List OptionSetting) Wrong) → (has_blocks kind.content ≡ true → HaveAtMostLines n (content_blocks B content)) → MayBeIn n B (read_parts kind content given choices)
@@ -216,7 +217,7 @@ judged_in n B place paragraph source (Ok read) h = by (fault_of place paragraph 
 outcome_in : (c : Within) (B : Block) (i : ℕ) (call : Invocation) (place : Place) → is_trimmed B ≡ true → IsFronted (lines_in B call.block) → length (lines_in B call.block) ≡ call.block.to - call.block.from
     → IsIn (length (lines_in B call.block)) B (called c B i call place)
 unfolding directive_of
-outcome_in c B i call place t h count = by (named_directive (called_at c.code B i call) place)
+outcome_in c B i call place t h count = either (is_handed_at B i call)
   where
     paragraph : Bool
     paragraph = is_single_paragraph (lines_in B call.block)
@@ -224,6 +225,10 @@ outcome_in c B i call place t h count = by (named_directive (called_at c.code B 
     by : (r : Result Kind Fault) → IsIn (length (lines_in B call.block)) B (directive_outcome_at (source_lines_at i call.block) (and_then (judged_directive place paragraph) (and_then (read_at B i call.block) r)))
     by (Err w) = tt
     by (Ok kind) = judged_in (length (lines_in B call.block)) B place paragraph (source_lines_at i call.block) (read_block kind (is_late i call.block) call.block (lines_in B call.block)) (block_in B kind (is_late i call.block) call.block t h count)
+
+    either : (b : Bool) → IsIn (length (lines_in B call.block)) B (cond b handed (directive_at c.code B i call place paragraph))
+    either true = tt
+    either false = by (named_directive (called_at c.code B i call) place)
 
 -- ---- the blocks
 
@@ -236,6 +241,7 @@ more_within n m Cs h w = record { few = omega (arith, h, w.few); fronted = w.fro
 
 directive_by : (n : ℕ) (B : Block) (o : Outcome) → IsIn n B o → HaveAtMostLines n (directive_blocks o B)
 directive_by n B (found read) h = cond_both (has_blocks read.kind.content) (content_blocks B read.content) [] (HaveAtMostLines n) h (λ _. none_within n)
+directive_by n B handed h = none_within n
 directive_by n B (wrong fault source) h = none_within n
 
 -- those of a directive, in a block or in a substitution definition

@@ -8,7 +8,7 @@ use Rattle.rst_markup_blocks.specs.declared.part.Part.{Part}
 use Rattle.rst_markup_directives.specs.Argument.{ArgumentMeaning, title, language, title_argument, uri_of, word_of, language_of, argument_of}
 use Rattle.rst_markup_directives.specs.Call.{called_at, part_of, content_block, content_of}
 use Rattle.rst_markup_directives.specs.Characters.{Text}
-use Rattle.rst_markup_directives.specs.Directive.{Read, Outcome, found, wrong, run_in, directive_options, directive_outcome, read_parts, directive_by_layout, read_block, read_at, directive_outcome_at, fault_of, of_block, judged_directive, named_directive, source_lines_at, is_late, directive_of}
+use Rattle.rst_markup_directives.specs.Directive.{Read, Outcome, found, handed, wrong, run_in, directive_options, directive_outcome, read_parts, directive_by_layout, read_block, read_at, directive_outcome_at, fault_of, of_block, judged_directive, named_directive, source_lines_at, is_late, directive_at, directive_of}
 use Rattle.rst_markup_directives.specs.Layout.{layout_of}
 use Rattle.rst_markup_directives.specs.Lines.{joined_nonempty}
 use Rattle.rst_markup_directives.specs.Options.{OptionSetting}
@@ -16,12 +16,12 @@ use Rattle.rst_markup_directives.specs.Wrong.{Wrong, Fault, many_arguments, and_
 use Rattle.rst_markup_directives.specs.declared.argument.Argument.TheVariants.{Title}
 use Rattle.rst_markup_directives.specs.declared.found.Content.{Content}
 use Rattle.rst_markup_directives.specs.declared.found.Directive.{Directive}
-use Rattle.rst_markup_directives.specs.declared.found.Directive.TheVariants.{Found as FoundDirective, Wrong as WrongDirective}
+use Rattle.rst_markup_directives.specs.declared.found.Directive.TheVariants.{Found as FoundDirective, Handed as HandedDirective, Wrong as WrongDirective}
 use Rattle.rst_markup_directives.specs.declared.found.Place.{Place}
 use Rattle.rst_markup_directives.specs.declared.kind.ArgumentKind.{ArgumentKind}
 use Rattle.rst_markup_directives.specs.declared.kind.ArgumentKind.TheVariants.{Absent as NoArgument, Title as TitleArgument, OptionalTitle, Uri as UriArgument, Language as LanguageArgument, Formats as FormatsArgument, Classes as ClassesArgument}
 use Rattle.rst_markup_directives.specs.declared.kind.Kind.{Kind}
-use Rattle.rst_block_state.specs.Directives.{called}
+use Rattle.rst_block_state.specs.Directives.{called, is_handed_at}
 use Rattle.rst_block_state.specs.looks.Ledger.{argument_lines}
 use Rattle.rst_block_state.specs.Paragraphs.{is_single_paragraph}
 use Rattle.rst_block_state.specs.Texts.{lines_in}
@@ -53,6 +53,7 @@ MayBeReadShort n (Err w) = Unit {0}
 
 abbrev AreOutcomeShort : ℕ → Outcome → Type 0
 AreOutcomeShort n (found read) = AreShort n read
+AreOutcomeShort n handed = Unit {0}
 AreOutcomeShort n (wrong fault source) = Unit {0}
 
 title_short : (n : ℕ) (ts : List Text) (part : Part) → part.to - part.from ≤ n → MayBeShort n (title_argument ts part)
@@ -112,7 +113,7 @@ judged_short n place paragraph source (Ok read) h = by (fault_of place paragraph
 
 outcome_short : (n : ℕ) (c : Within) (B : Block) (i : ℕ) (call : Invocation) (place : Place) → length (lines_in B call.block) ≤ n → AreOutcomeShort n (called c B i call place)
 unfolding directive_of
-outcome_short n c B i call place few = by (named_directive (called_at c.code B i call) place)
+outcome_short n c B i call place few = either (is_handed_at B i call)
   where
     paragraph : Bool
     paragraph = is_single_paragraph (lines_in B call.block)
@@ -121,13 +122,19 @@ outcome_short n c B i call place few = by (named_directive (called_at c.code B i
     by (Ok kind) = judged_short n place paragraph (source_lines_at i call.block) (read_block kind (is_late i call.block) call.block (lines_in B call.block)) (block_short n kind (is_late i call.block) call.block (lines_in B call.block) few)
     by (Err w) = tt
 
+    either : (b : Bool) → AreOutcomeShort n (cond b handed (directive_at c.code B i call place paragraph))
+    either true = tt
+    either false = by (named_directive (called_at c.code B i call) place)
+
 -- a directive's title, and the two parts of its content, have no more lines than this
 abbrev pub AreFew : ℕ → Directive → Type 0
 AreFew n (FoundDirective kind argument options content) = (argument_lines argument ≤ n) × IsContentShort n content
+AreFew n HandedDirective = Unit {0}
 AreFew n (WrongDirective fault source) = Unit {0}
 
 kept_few : (n : ℕ) (d : Directive) → AreOutcomeShort n (directive_outcome d) → AreFew n d
 kept_few n (FoundDirective kind (Title part) options content) h = h
+kept_few n HandedDirective h = tt
 kept_few n (WrongDirective fault source) h = tt
 kept_few n _ h = (omega arith, h.1)
 

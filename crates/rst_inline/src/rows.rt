@@ -48,7 +48,7 @@ pub fn wider_roles()
     ensures both { map is_wider_role (codes "sub" ∷ codes "t" ∷ codes "m" ∷ codes "" ∷ []) ≡ false ∷ false ∷ false ∷ false ∷ [] }
 {}
 
-/// Roles that are handed back, also one that the profile knows (docs/LIBRARY.md, 'Directives and roles handed back').
+/// Roles that are handed back, also one that the profile knows (JSON, 'Directives and roles handed back').
 pub fn handed_roles()
     ensures before_and_after { ShowsBy (handing ":ref\n:PY:func") ":Ref:`x\\ y` `z`:py:func:"
         ("<handed kind=\"role\" name=\"Ref\" xml:space=\"preserve\">" ∷ "    :Ref:`x\\ y`" ∷ " "

@@ -1,10 +1,10 @@
-//! Directives and roles that are handed back, in documents (docs/LIBRARY.md, 'Directives and roles handed back').
+//! Directives and roles that are handed back, in documents (JSON, 'Directives and roles handed back').
 #![tactic(auto, unfolding(crate::proofs::Computing::rst_block_state))]
 
 ghost use Rattle.std.specs.Prelude.{[], ◌∷◌};
 ghost use Rattle.rst_block_state.specs.Reads.{MeansHanding};
 
-/// A directive is its lines, where the message on an unknown one would be.
+/// A directive is its lines, where the message on an unknown one would be (JSON, 'Directives and roles handed back').
 pub fn directives()
     ensures lines { MeansHanding "foo" ("a" ∷ "" ∷ ".. Foo:: a" ∷ "   :b: c" ∷ "" ∷ "     d" ∷ "" ∷ ".. bar::" ∷ []) 0
         ("<document> 0" ∷ "    <paragraph> 1" ∷ "        a" ∷ "    <handed kind=\"directive\" name=\"Foo\" xml:space=\"preserve\"> 3"
@@ -23,7 +23,7 @@ pub fn directives()
         ∷ "        <literal_block xml:space=\"preserve\"> 1" ∷ "            .. foo::" ∷ []) }
 {}
 
-/// What is handed back may be what a substitution definition holds.
+/// What is handed back may be what a substitution definition holds (JSON, 'Directives and roles handed back').
 pub fn definitions()
     ensures directive { MeansHanding "foo" (".. |a  B| foo:: c" ∷ "   d" ∷ []) 0
         ("<document> 0" ∷ "    <substitution_definition own_name=\"a B\"> 1"
@@ -34,7 +34,7 @@ pub fn definitions()
         ∷ "        <handed kind=\"role\" name=\"r\" xml:space=\"preserve\"> 1" ∷ "            :r:`c`" ∷ []) }
 {}
 
-/// A role may be in a caption and in a cell.
+/// A role may be in a caption and in a cell (JSON, 'Directives and roles handed back').
 pub fn roles()
     ensures caption { MeansHanding ":r" (".. figure:: a.png" ∷ "" ∷ "   :r:`b`" ∷ []) 0
         ("<document> 0" ∷ "    <figure> 1" ∷ "        <image uri=\"a.png\"> 1" ∷ "        <caption> 3"
