@@ -1,3 +1,4 @@
 pub mod Marking
 pub mod Visiting
+pub mod Classes
 pub mod Knowing

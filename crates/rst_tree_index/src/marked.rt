@@ -1,13 +1,16 @@
 //! A node with the places of the elements that registration needs, these elements, and changes at them.
 ghost use Rattle.std.specs.Prelude.{◌≡◌, ◌++◌, map, if◌then◌else◌, filter, IfOk};
+ghost use Rattle.rst_tree.specs.Paths.{with_value};
 ghost use Rattle.rst_tree.specs.Walk.{item, node_items, after, walked_node};
+ghost use Rattle.rst_tree.specs.declared.attrs.Value.TheVariants.{List as Listed};
+ghost use Rattle.rst_tree.specs.declared.key.Key.TheVariants.{Classes};
 ghost use Rattle.rst_tree_index.specs.MarkPaths.{node_paths};
 ghost use Rattle.rst_tree_index.specs.Marks.{marks_of, heeded_next, heeded_out, path_of, places, visited_all, with_elements_at};
 ghost use Rattle.rst_tree_index.specs.Registered.{is_registered, item_of};
 
 use crate::marks::Marks;
 use crate::registered::is_registered;
-use rst_tree::{Attrs, Children, Node, Result, Tag, Visitor};
+use rst_tree::{Attrs, Children, Key, Node, Result, Tag, Texts, Value, Visitor};
 use std::alloc::Global;
 use std::marker::Model;
 
@@ -196,6 +199,21 @@ impl Marked {
         ensures { result ≡ root }
     {
         Marked { root, own, inner }
+    }
+
+    /// The node with these classes, in place of those that it has; a text has none. Registration looks at no classes, so its marks stay.
+    pub fn with_classes(self, classes: Texts) -> Result<Marked>
+        ensures { IfOk result (λ m. m ≡ with_value Classes (Listed classes) self) }
+    {
+        let Marked {
+            mut root,
+            own,
+            inner,
+        } = self;
+        if let Node::Element { attrs, .. } = &mut root {
+            attrs.set(Key::Classes, Value::List(classes))?;
+        }
+        Ok(Marked::from_parts(root, own, inner))
     }
 
     /// The node alone.

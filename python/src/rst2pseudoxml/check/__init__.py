@@ -22,7 +22,7 @@ What a known directive holds is read as a part of the page if a mark comes after
 
     text      all of it is text, as in `note`
     content   what comes after its argument is text
-    sections  the same, and titles may be in it
+    sections  the same, and titles, topics and sidebars may be in it
     title     its argument is text, and what comes after it
     lines     its lines are text without blocks, as in `parsed-literal`
     terms     its lines are terms and definitions, as in `glossary`
