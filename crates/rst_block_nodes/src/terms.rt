@@ -79,7 +79,7 @@ fn plain_parts(alloc: Global, text: &[char], pieces: &[Piece]) -> Result<Vec<Vec
 fn letters_of(alloc: Global, text: &[char]) -> Result<Vec<Letter>, AllocError>
     ensures { IfOk result (λ letters. letters.items ≡ letters_from false text.now) }
 {
-    let mut letters = Vec::new(alloc);
+    let mut letters = Vec::with_capacity(alloc, text.len())?;
     let mut escaped = false;
     for c in text {
         let begins = escapes(*c, escaped);

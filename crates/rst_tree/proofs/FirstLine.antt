@@ -1,27 +1,25 @@
 -- The first line of a text, by the place of the first LF.
-use Rattle.std.proofs.Common.{◌≡◌, ℕ, ◌<◌, List, [], ◌∷◌, Option, None, Some, length, zero, suc, refl, sym, ◌∙◌, arith, false}
-use Rattle.std.proofs.lemmas.Bool.{cond-true, cond-false, false_from_ne_true}
-use Rattle.std.specs.Option.{unwrap_or}
+use Rattle.std.proofs.Common.{◌≡◌, ℕ, ◌<◌, ◌≤◌, List, [], ◌∷◌, get_or, length, zero, suc, sym, ◌∙◌, arith, true, false}
+use Rattle.std.proofs.lemmas.Bool.{cond-true, cond-false}
+use Rattle.std.proofs.lemmas.Bool.Decides.{nat_tests}
 use Rattle.std.specs.Prelude.{◌==◌}
-use Rattle.memchr.specs.Find.{IsFirstByte, Nowhere, Passes, is_byte}
-use Rattle.rst_tree.specs.Print.{line_len}
+use Rattle.rst_text.specs.Runs.{IsRun}
+use Rattle.rst_tree.specs.Print.{is_of_line, line_len}
 
--- a text without LF is its first line
-line_len-none : (t : List ℕ) → Nowhere (Passes (is_byte 10) t) 0 (length t) → line_len t ≡ length t
-line_len-none [] h = refl
-line_len-none (b ∷ bs) h =
-    let first : (b == 10) ≡ false = false_from_ne_true (b == 10) (h 0 (omega arith) (omega arith)) in
-    let e = line_len-none bs (λ k low high p. h (suc k) (omega arith) (omega arith) p) in cond-false _ _ _ first ∙ omega (arith, e)
+lf : (b : ℕ) → is_of_line b ≡ false → (b == 10) ≡ true
+lf b h = grind (arith, nat_tests)
 
--- the first line ends where the first LF is
-line_len-first : (t : List ℕ) (k : ℕ) → k < length t → Nowhere (Passes (is_byte 10) t) 0 k → Passes (is_byte 10) t k → line_len t ≡ k
-line_len-first [] k high before lf = absurd (omega arith)
-line_len-first (b ∷ bs) zero high before lf = cond-true _ _ _ lf
-line_len-first (b ∷ bs) (suc k) high before lf =
-    let first : (b == 10) ≡ false = false_from_ne_true (b == 10) (before 0 (omega arith) (omega arith)) in
-    let e = line_len-first bs k (omega arith) (λ m low below p. before (suc m) (omega arith) (omega arith) p) lf in cond-false _ _ _ first ∙ omega (arith, e)
+other : (b : ℕ) → is_of_line b ≡ true → (b == 10) ≡ false
+other b h = grind (arith, nat_tests)
 
--- so it ends at the place that a search for LF finds, or is all of the text
-pub line_len_found : (t : List ℕ) (r : Option ℕ) → IsFirstByte (is_byte 10) t r → unwrap_or r (length t) ≡ line_len t
-line_len_found t None h = sym (line_len-none t h)
-line_len_found t (Some k) h = sym (line_len-first t k h.0.high h.0.before h.1)
+-- the bytes before a place are of one line, and the byte there isn't
+first_line : (t : List ℕ) (k : ℕ) → k ≤ length t → ((i : ℕ) → i < k → is_of_line (get_or t i 0) ≡ true) → (k < length t → is_of_line (get_or t k 0) ≡ false) → line_len t ≡ k
+first_line [] k within before stops = omega arith
+first_line (b ∷ bs) zero within before stops = cond-true _ _ _ (lf b (stops (omega arith)))
+first_line (b ∷ bs) (suc k) within before stops =
+    let more = first_line bs k (omega arith) (λ i less. before (suc i) (omega arith)) (λ less. stops (omega arith)) in
+    cond-false _ _ _ (other b (before 0 (omega arith))) ∙ omega (arith, more)
+
+-- so the first line ends where a run of such bytes does
+pub line_len_run : (t : List ℕ) (k : ℕ) → IsRun is_of_line t 0 k → k ≡ line_len t
+line_len_run t k run = sym (first_line t k run.within (λ i less. run.pass i (omega arith) less) run.stops)

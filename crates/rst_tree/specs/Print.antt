@@ -1,6 +1,6 @@
 -- What is printed of a tree, in the pseudo-XML of the examples in Document Tree, 'Element Reference': its lines in preorder, each
 -- after its indentation and with its end.
-use Rattle.std.specs.Prelude.{ℕ, ◌+◌, ◌-◌, ◌*◌, ◌^◌, min, ◌==◌, ◌&&◌, ◌||◌, if◌then◌else◌, Bool, true, false, List, [], ◌∷◌, ◌++◌, map, codes, replicate}
+use Rattle.std.specs.Prelude.{ℕ, ◌+◌, ◌-◌, ◌*◌, ◌^◌, min, ◌==◌, ◌&&◌, ◌||◌, not, if◌then◌else◌, Bool, true, false, List, [], ◌∷◌, ◌++◌, map, codes, replicate}
 use Rattle.std.specs.List.{flat_map, onto_first}
 use Rattle.std.specs.Fmt.{decimal}
 use Rattle.rst_tree.specs.declared.attrs.Attr.{Attr}
@@ -72,6 +72,10 @@ start_tag t attrs = codes "<" ++ tag_name t ++ flat_map attribute_text attrs ++ 
 abbrev pub text_lines : List ℕ → List (List ℕ)
 text_lines [] = []
 text_lines (b ∷ bs) = if b == 10 then [] ∷ text_lines bs else onto_first b (text_lines bs)
+
+-- a byte that ends no line
+abbrev pub is_of_line : ℕ → Bool
+is_of_line b = not (b == 10)
 
 -- how many bytes come before the first LF
 abbrev pub line_len : List ℕ → ℕ

@@ -21,8 +21,8 @@ use crate::page::{FEW, Page, SPACES};
 use crate::tag::Tag;
 use crate::text::Text;
 use itoa::Buffer;
-use memchr::memchr;
-use rst_text::{Counted, WriteCall};
+use rst_text::{ByteTest, Counted, WriteCall, run_end};
+use std::simd::prelude::*;
 
 /// Writes a number in decimal digits.
 fn put_number<W: WriteCall, const N: usize>(out: &mut Counted<W>, page: &mut Page<N>, number: u64)
@@ -243,6 +243,24 @@ fn put_indented<W: WriteCall, const N: usize>(
     page.put(out, second);
 }
 
+/// Whether a byte ends no line.
+struct OfLine;
+
+impl ByteTest for OfLine {
+    ghost use Rattle.rst_tree.specs.Print.{is_of_line};
+
+    ghost passes = { is_of_line };
+
+    fn passes(byte: u8) -> bool {
+        byte != b'\n'
+    }
+
+    #[inline(always)]
+    fn failing(bytes: u8x16) -> u64 {
+        bytes.simd_eq(u8x16::splat(b'\n')).to_bitmask()
+    }
+}
+
 /// Writes the lines of a text, each after its indentation. The last may have no LF.
 fn put_text<W: WriteCall, const N: usize>(
     out: &mut Counted<W>,
@@ -254,7 +272,7 @@ fn put_text<W: WriteCall, const N: usize>(
 {
     let mut rest = text;
     while !rest.is_empty() {
-        let end = memchr(b'\n', rest).unwrap_or(rest.len());
+        let end = run_end::<OfLine>(rest, 0);
         put_indented(out, page, level, &rest[..end], b"\n");
         let following = &rest[end..];
         rest = &following[following.len().min(1)..];

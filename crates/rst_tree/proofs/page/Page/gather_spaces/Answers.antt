@@ -1,4 +1,4 @@
-use Rattle.std.proofs.Common.{◌∙◌, ◌++◌, take, arith, ap}
+use Rattle.std.proofs.Common.{◌∙◌, ◌++◌, arith, ap}
 use Rattle.std.proofs.lemmas.List.{take-replicate}
 use Rattle.rst_tree.proofs.Pages.{take-placed}
 use Rattle.rst_tree.specs.Sends.{page_bytes}
