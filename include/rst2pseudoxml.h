@@ -114,6 +114,10 @@ void rst_messages(const uint8_t *text, size_t text_length, const rst_options *op
 void rst_parse(const uint8_t *text, size_t text_length, const uint8_t *names, size_t names_length, const rst_options *options, uint8_t *json,
                size_t json_room, rst_result *result);
 
+/* The same as records. */
+void rst_parse_records(const uint8_t *text, size_t text_length, const uint8_t *names, size_t names_length, const rst_options *options,
+                       uint8_t *records, size_t records_room, rst_result *result);
+
 #ifdef __cplusplus
 }
 #endif

@@ -27,7 +27,7 @@ sed -n '/^`cc -Iinclude hello.c/,/^`make install`/p' README.md | sed -n '/^```$/
 "$work/shared" threads
 python3 scripts/library.py "$work/shared" "$work/static"
 if command -v valgrind >/dev/null; then
-  for call in print json records messages parse; do
+  for call in print json records messages parse parse_records; do
     valgrind -q --error-exitcode=99 --leak-check=full --errors-for-leak-kinds=all "$work/shared" "$call" 1 5 5 8 10000 0 0 0 x <docs/INTEGRATIONS.md >/dev/null 2>"$work/errors" ||
       { cat "$work/errors" && exit 1; }
   done

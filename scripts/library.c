@@ -1,9 +1,9 @@
 /* Calls the library as a program in C would, for scripts/check_library.sh.
 
-     library print|json|records|messages|parse REPORT HALT EXIT TAB LIMIT NO_TITLE NO_INFO PROFILE SOURCE
+     library print|json|records|messages|parse|parse_records REPORT HALT EXIT TAB LIMIT NO_TITLE NO_INFO PROFILE SOURCE
 
    reads a text from standard input and writes what the call makes of it: the tree or the JSON to standard output, the messages to standard
-   error. `parse` takes SOURCE as the names that are handed back. Of records it writes the tree that they show. The status is the program's. If nothing was made it is 100 and the end of the call, and
+   error. `parse` and `parse_records` take SOURCE as the names that are handed back. Of records it writes the tree that they show. The status is the program's. If nothing was made it is 100 and the end of the call, and
    standard error has the end and its place. It is 200 where the library breaks its word. Each call is made with no room, with rooms that are
    one byte too small, with exact ones and with larger ones: what doesn't fit must leave its room as it was, and nothing may be written behind
    a text.
@@ -74,6 +74,9 @@ static rst_result made(const struct call *call, struct room *first, struct room 
     else if (!strcmp(call->name, "parse"))
         rst_parse(call->text, call->text_length, (const uint8_t *)call->source, strlen(call->source), &call->options, first->bytes, first->length,
                   &result);
+    else if (!strcmp(call->name, "parse_records"))
+        rst_parse_records(call->text, call->text_length, (const uint8_t *)call->source, strlen(call->source), &call->options, first->bytes,
+                          first->length, &result);
     else
         rst_messages(call->text, call->text_length, &call->options, first->bytes, first->length, &result);
     return result;
@@ -200,7 +203,7 @@ static void print_node(struct part node, const char *source, int level)
 static void show(const struct call *call, const struct room *made)
 {
     struct part whole = {made->bytes, made->bytes + made->length};
-    if (strcmp(call->name, "records")) {
+    if (strcmp(call->name, "records") && strcmp(call->name, "parse_records")) {
         print_part(whole);
         return;
     }
@@ -264,7 +267,7 @@ static struct room all_of(FILE *file)
 
 static const char TEXT[] = "Title\n=====\n\nA *word and a link_.\n\n- an item\n\n  + inside\n\n.. _link: https://example.org/\n";
 
-static const char *const NAMES[] = {"print", "json", "records", "messages", "parse"};
+static const char *const NAMES[] = {"print", "json", "records", "messages", "parse", "parse_records"};
 enum { NAME_COUNT = sizeof NAMES / sizeof *NAMES };
 
 static void *calls(void *unused)

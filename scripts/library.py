@@ -37,7 +37,7 @@ MUTATIONS = [b"\n", b"*", b"`", b"|", b"_ ", b":", b"  ", b"\t", b"\\", b'"', b"
 OPTIONS = [[], ["-v"], ["--halt=warning"], ["--exit-status=info", "--no-doc-info"], ["--no-doc-title", "--tab-width=3", "--strict"]]
 PLACES = ("report", "halt", "exit-status", "tab-width", "line-length-limit", "no-doc-title", "no-doc-info", "profile")
 WIDER_PROFILE = "--profile=1"
-CALLS = ("print", "json", "records", "messages", "parse")
+CALLS = ("print", "json", "records", "messages", "parse", "parse_records")
 WORDS = {"-v": "--report=info", "--verbose": "--report=info", "-q": "--report=none", "--quiet": "--report=none", "--strict": "--halt=info"}
 
 
@@ -121,10 +121,15 @@ class Comparison:
 
     def parse_fault(self, names, profile, text, wanted):
         """What is wrong with the parsed document of a text, in which names are handed back."""
-        words = [self.library, "parse", *options([f"--profile={profile}"]), names]
-        done = subprocess.run([*SMALL_STACK, *words], input=text.encode(), capture_output=True, check=False)
-        found = (done.returncode, done.stderr, json.loads(done.stdout) if done.returncode == 0 else None)
-        return None if found == wanted else "parse"
+        words = [*options([f"--profile={profile}"]), names]
+        calls = ([*SMALL_STACK, self.library, name, *words] for name in ("parse", "parse_records"))
+        parsed, records = (subprocess.run(call, input=text.encode(), capture_output=True, check=False) for call in calls)
+        if (parsed.returncode, parsed.stderr, json.loads(parsed.stdout) if parsed.returncode == 0 else None) != wanted:
+            return "parse"
+        tree = [] if wanted[2] is None else printed(wanted[2], names)
+        if (records.returncode, records.stderr, records.stdout) != (*wanted[:2], "".join(f"{line}\n" for line in tree).encode()):
+            return "parse_records"
+        return None
 
     def refusal(self, words, text, end):
         """The first call that doesn't end with this status, end and place, if one doesn't."""

@@ -11,7 +11,7 @@ use Rattle.rst_c.specs.declared.document.Form.{Form}
 use Rattle.rst_c.specs.declared.document.Form.TheVariants.{DocumentJson, DocumentRecords, MessagesJson}
 use Rattle.rst_c.specs.declared.options.RstOptions.{RstOptions}
 use Rattle.rst_json.specs.Json.{json_array, json_node, json_node_of, json_note}
-use Rattle.rst_json.specs.Records.{node_record}
+use Rattle.rst_json.specs.Records.{node_record, node_record_of}
 use Rattle.rst_settings.specs.Profile.{profile_of}
 use Rattle.rst_settings.specs.declared.Settings.{Settings}
 use Rattle.rst_text.specs.Counted.{inner_of}
@@ -86,18 +86,18 @@ abbrev pub parsed_of : Settings → List ℕ → Result Node End
 parsed_of settings bytes =
     let text = text_of bytes in if nat_lt 16777216 (length bytes) then Err TooLong else parsed_of_text (held settings text) bytes text
 
--- it as JSON, with the attributes that serve the transforms alone, too
-abbrev pub parsed_json : Node → List ℕ
-parsed_json document = json_node_of true (with_printed_attrs None document)
+-- it as records or as JSON, with the attributes that serve the transforms alone, too
+abbrev pub parsed_bytes : Bool → Node → List ℕ
+parsed_bytes records document = let whole = with_printed_attrs None document in if records then node_record_of true whole else json_node_of true whole
 
-abbrev pub parsed_parts : Result Node End → Wanted
-parsed_parts (Ok document) = Ok (record { out = parsed_json document; err = []; status = 0 })
-parsed_parts (Err end) = Err (Text end)
+abbrev pub parsed_parts : Bool → Result Node End → Wanted
+parsed_parts records (Ok document) = Ok (record { out = parsed_bytes records document; err = []; status = 0 })
+parsed_parts records (Err end) = Err (Text end)
 
 -- what is parsed of a text
-abbrev pub parse_wanted : Option Settings → List ℕ → Wanted
-parse_wanted None text = Err Options
-parse_wanted (Some settings) text = parsed_parts (parsed_of settings text)
+abbrev pub parse_wanted : Bool → Option Settings → List ℕ → Wanted
+parse_wanted records None text = Err Options
+parse_wanted records (Some settings) text = parsed_parts records (parsed_of settings text)
 
 abbrev pub wanted_of : Result Parts End → Wanted
 wanted_of (Ok parts) = Ok parts

@@ -1,6 +1,6 @@
 //! The document of a text, and what is made of it.
 ghost use Rattle.std.specs.Prelude.{◌≡◌, ◌≤◌, IfOk, filter, map};
-ghost use Rattle.rst_c.specs.Answers.{bytes_as, form_wanted, made_of, parse_wanted, parsed_json, print_wanted, Finds, FindsParsed, MakesWanted};
+ghost use Rattle.rst_c.specs.Answers.{bytes_as, form_wanted, made_of, parse_wanted, parsed_bytes, print_wanted, Finds, FindsParsed, MakesWanted};
 ghost use Rattle.rst_json.specs.Json.{json_array, json_note};
 ghost use Rattle.rst_transform_messages.specs.Messages.{highest_level};
 ghost use Rattle.rst2pseudoxml_run.specs.RunResult as run_result;
@@ -86,15 +86,20 @@ pub fn formed(
     }
 }
 
-/// What is parsed of a text as JSON: the document before the transforms, with the attributes that serve them.
-pub fn parsed(alloc: Global, text: &[u8], settings: Option<Settings>) -> Result<Made, Refusal>
-    ensures { MakesWanted (parse_wanted settings text.now) (made_of result) }
+/// What is parsed of a text, as JSON or as records: the document before the transforms, with the attributes that serve them.
+pub fn parsed(
+    alloc: Global,
+    text: &[u8],
+    settings: Option<Settings>,
+    records: bool,
+) -> Result<Made, Refusal>
+    ensures { MakesWanted (parse_wanted records settings text.now) (made_of result) }
 {
     let Some(settings) = settings else {
         return Err(Refusal::Options);
     };
     let parsed = parsed_tree(alloc, text, &settings)?;
-    match parsed_json(alloc, &parsed) {
+    match parsed_bytes(alloc, &parsed, records) {
         Ok(bytes) => Ok(Made {
             tree: Counted::of(bytes),
             messages: Counted::of(Vec::new(alloc)),
@@ -116,12 +121,16 @@ fn parsed_tree(alloc: Global, text: &[u8], settings: &Settings) -> Result<Parsed
     }
 }
 
-/// The JSON of what was parsed.
-fn parsed_json(alloc: Global, parsed: &Parsed) -> Result<Vec<u8>, AllocError>
-    ensures { IfOk result (λ bytes. bytes.items ≡ parsed_json parsed.now.tree) }
+/// The JSON or the records of what was parsed.
+fn parsed_bytes(alloc: Global, parsed: &Parsed, records: bool) -> Result<Vec<u8>, AllocError>
+    ensures { IfOk result (λ bytes. bytes.items ≡ parsed_bytes records parsed.now.tree) }
 {
     let mut bytes = Vec::new(alloc);
-    put_node(alloc, parsed.tree.root(), true, &mut bytes)?;
+    if records {
+        put_record(alloc, parsed.tree.root(), true, &mut bytes)?;
+    } else {
+        put_node(alloc, parsed.tree.root(), true, &mut bytes)?;
+    }
     Ok(bytes)
 }
 
@@ -141,7 +150,7 @@ fn bytes_as(
             Ok(bytes)
         }
         Form::DocumentRecords => {
-            put_record(alloc, finished.tree.root(), &mut bytes)?;
+            put_record(alloc, finished.tree.root(), false, &mut bytes)?;
             Ok(bytes)
         }
         Form::MessagesJson => notes_json(alloc, finished.notes.as_slice(), settings),

@@ -1,7 +1,7 @@
 //! The library for C: what the program prints for a text, its tree and its messages, in the caller's memory.
 #![tactic(auto)]
 
-ghost use Rattle.std.specs.Prelude.{◌≡◌};
+ghost use Rattle.std.specs.Prelude.{◌≡◌, false, true};
 ghost use Rattle.rst_c.specs.Answers.{c_result_of, form_wanted, messages_after, parse_wanted, print_wanted, tree_after, Answers, AnswersHanding};
 ghost use Rattle.rst_c.specs.declared.document.Form.TheVariants.{DocumentJson, DocumentRecords, MessagesJson};
 
@@ -83,11 +83,28 @@ pub extern "C" fn rst_parse(
     json: &mut [u8],
     answer: &mut RstResult,
 )
-    ensures { AnswersHanding options.now names.now (λ settings. parse_wanted settings text.now)
+    ensures { AnswersHanding options.now names.now (λ settings. parse_wanted false settings text.now)
         (λ made. (answer.new ≡ c_result_of made) × (json.new ≡ tree_after made json.old)) }
 {
-    let made = parsed(alloc, text, options.settings_handing(names));
+    let made = parsed(alloc, text, options.settings_handing(names), false);
     *answer = tell(&made, json, &mut []);
+}
+
+/// The same as records.
+#[unsafe(no_mangle)]
+pub extern "C" fn rst_parse_records(
+    alloc: Global,
+    text: &[u8],
+    names: &'static [u8],
+    options: &RstOptions,
+    records: &mut [u8],
+    answer: &mut RstResult,
+)
+    ensures { AnswersHanding options.now names.now (λ settings. parse_wanted true settings text.now)
+        (λ made. (answer.new ≡ c_result_of made) × (records.new ≡ tree_after made records.old)) }
+{
+    let made = parsed(alloc, text, options.settings_handing(names), true);
+    *answer = tell(&made, records, &mut []);
 }
 
 /// The messages on a text as JSON, if they fit: those that are reported, in their order.

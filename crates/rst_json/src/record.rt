@@ -2,7 +2,7 @@
 
 ghost use Rattle.std.specs.Prelude.{◌≡◌, ◌≤◌, ◌+◌, ◌++◌, length, None, take, drop, flat_map};
 ghost use Rattle.rst_json.specs.Json.{Adds};
-ghost use Rattle.rst_json.specs.Records.{attr_record, node_record, sized, value_record, word};
+ghost use Rattle.rst_json.specs.Records.{attr_record_of, node_record_of, sized, value_record, word};
 ghost use Rattle.rst_tree.specs.Entries.{as_value};
 ghost use Rattle.rst_tree.specs.PrintedAttributes.{printed_attrs, with_printed_attrs};
 
@@ -10,9 +10,10 @@ use crate::element::{attribute_name, message_attrs};
 use rst_tree::{Attrs, Entry, Node, Result, Tag, ValueRef};
 use std::alloc::Global;
 
-/// Puts a node after its length: a text; or an element with its line, its tag, the attributes that it is printed with, and its nodes.
-pub fn put_record(alloc: Global, node: &Node, out: &mut Vec<u8>) -> Result<()>
-    ensures { Adds out.old.items out.new.items (node_record (with_printed_attrs None node.now)) result }
+/// Puts a node after its length: a text; or an element with its line, its tag, its attributes, and its nodes. The attributes are those that
+/// it is printed with or, if `all` is true, also those that serve the transforms alone.
+pub fn put_record(alloc: Global, node: &Node, all: bool, out: &mut Vec<u8>) -> Result<()>
+    ensures { Adds out.old.items out.new.items (node_record_of all (with_printed_attrs None node.now)) result }
 {
     let start = out.len();
     put_word(0, out)?;
@@ -32,9 +33,9 @@ pub fn put_record(alloc: Global, node: &Node, out: &mut Vec<u8>) -> Result<()>
             out.push(1)?;
             put_word(*line as u64, out)?;
             put_sized(tag.name().as_bytes(), out)?;
-            put_printed_attrs(alloc, *tag, attrs, *line, out)?;
+            put_printed_attrs(alloc, *tag, attrs, *line, all, out)?;
             for child in children.as_slice() {
-                put_record(alloc, child, out)?;
+                put_record(alloc, child, all, out)?;
             }
             seal(start, out);
             Ok(())
@@ -48,34 +49,35 @@ fn put_printed_attrs(
     tag: Tag,
     attrs: &Attrs,
     line: usize,
+    all: bool,
     out: &mut Vec<u8>,
 ) -> Result<()>
-    ensures { Adds out.old.items out.new.items (sized (flat_map attr_record (printed_attrs None tag attrs.now line))) result }
+    ensures { Adds out.old.items out.new.items (sized (flat_map (attr_record_of all) (printed_attrs None tag attrs.now line))) result }
 {
     match tag {
-        Tag::SystemMessage => put_attrs(message_attrs(alloc, attrs, line)?.as_slice(), out),
-        _ => put_attrs(attrs.as_slice(), out),
+        Tag::SystemMessage => put_attrs(message_attrs(alloc, attrs, line)?.as_slice(), all, out),
+        _ => put_attrs(attrs.as_slice(), all, out),
     }
 }
 
-/// Puts the attributes after their length, without those that aren't printed.
-fn put_attrs(attrs: &[Entry], out: &mut Vec<u8>) -> Result<()>
-    ensures { Adds out.old.items out.new.items (sized (flat_map attr_record attrs.now)) result }
+/// Puts all attributes, or those that are printed, after their length.
+fn put_attrs(attrs: &[Entry], all: bool, out: &mut Vec<u8>) -> Result<()>
+    ensures { Adds out.old.items out.new.items (sized (flat_map (attr_record_of all) attrs.now)) result }
 {
     let start = out.len();
     put_word(0, out)?;
     for attr in attrs {
-        put_attr(attr, out)?;
+        put_attr(attr, all, out)?;
     }
     seal(start, out);
     Ok(())
 }
 
-/// Puts an attribute after its length, unless it isn't printed.
-fn put_attr(attr: &Entry, out: &mut Vec<u8>) -> Result<()>
-    ensures { Adds out.old.items out.new.items (attr_record attr.now) result }
+/// Puts an attribute after its length, unless it isn't printed and not all are put.
+fn put_attr(attr: &Entry, all: bool, out: &mut Vec<u8>) -> Result<()>
+    ensures { Adds out.old.items out.new.items (attr_record_of all attr.now) result }
 {
-    if attr.is_left_out() {
+    if !all && attr.is_left_out() {
         return Ok(());
     }
     let start = out.len();

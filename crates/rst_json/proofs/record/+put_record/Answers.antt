@@ -15,7 +15,7 @@ put_record-requires t c =
 pub returns-after-loop-child : goal.returns-after-loop-child
 returns-after-loop-child t c =
     let put =
-    element_put c.args.node.now (c.args.out.now.items ++ word 0) c.as_bytes-in-Element.result.now c.in-Element.tag c.in-Element.attrs c.in-Element.children c.in-Element.line
+    element_put c.args.all c.args.node.now (c.args.out.now.items ++ word 0) c.as_bytes-in-Element.result.now c.in-Element.tag c.in-Element.attrs c.in-Element.children c.in-Element.line
     c.as_slice-child-items.result.now c.loop-child.child-index c.in-Element.is c.as_slice-child-items.ensures c.loop-child-test.false (c.as_bytes-in-Element.ensures.value ∙ c.name.ensures) in
     sealed c.args.out.now.items put.0 c.loop-child.out.items c.seal-in-Element.new.out.items c.len-start.result (search rules)
     (c.loop-child.invariant
