@@ -37,8 +37,8 @@ impl Kept {
         ensures { IfOk result (λ kept. kept ≡ []) }
     {
         let text = String::with_capacity(alloc, bytes)?;
-        // Few texts have lines of fewer than 16 bytes on average, and room that isn't used is never touched.
-        let mut starts = Vec::with_capacity(alloc, bytes / 16 + 1)?;
+        // Few texts have lines of fewer than 12 bytes on average, and room that isn't used is never touched.
+        let mut starts = Vec::with_capacity(alloc, bytes / 12 + 4)?;
         starts.push(0)?;
         Ok(Kept { text, starts })
     }
