@@ -1,7 +1,9 @@
 //! Each export once, over a document whose tree, JSON and messages are known.
 use crate::answer::RstResult;
 use crate::options::RstOptions;
-use crate::{rst_abi_version, rst_json, rst_messages, rst_print, rst_records};
+use crate::{
+    rst_abi_version, rst_json, rst_messages, rst_parse, rst_parse_records, rst_print, rst_records,
+};
 use std::test::Fail;
 
 const OPTIONS: RstOptions = RstOptions {
@@ -57,6 +59,10 @@ const RECORDS: &str = "\
 \x55\0\0\0\0\0\0\0\x01\0\0\0\0\0\0\0\0\x08\0\0\0\0\0\0\0document\0\0\0\0\0\0\0\0\
 \x2c\0\0\0\0\0\0\0\x01\x01\0\0\0\0\0\0\0\x09\0\0\0\0\0\0\0paragraph\0\0\0\0\0\0\0\0\
 \x02\0\0\0\0\0\0\0\0a";
+
+/// What is parsed of `:t:`a`: b` where the role is handed back.
+const PARSED: &str = "[\"document\",0,{},[\"paragraph\",1,{},\
+[\"handed\",1,{\"kind\":\"role\",\"name\":\"t\",\"xml:space\":\"preserve\"},\":t:`a`\"],\": b\"]]";
 
 /// What a result holds before a call.
 fn before() -> RstResult {
@@ -133,6 +139,26 @@ fn gives_json(rt: HostRuntime) -> Result<(), Fail> {
 fn gives_records(rt: HostRuntime) -> Result<(), Fail> {
     let (mut records, mut answer) = ([7u8; 100], before());
     rst_records(rt.alloc(), b"a\n", &OPTIONS, &mut records, &mut answer);
+    assert_eq!(rt; text_in(&records, answer.length)?, RECORDS);
+    Ok(())
+}
+
+#[test]
+fn hands_back(rt: HostRuntime) -> Result<(), Fail> {
+    let (text, mut json, mut answer) = (b":t:`a`: b\n", [7u8; 600], before());
+    let options = with_profile(1);
+    rst_parse(rt.alloc(), text, b":t", &options, &mut json, &mut answer);
+    assert_eq!(rt; text_in(&json, answer.length)?, PARSED);
+    assert_eq!(rt; answer.status, 0);
+    rst_parse(rt.alloc(), text, b"\xff", &options, &mut json, &mut answer);
+    assert_eq!(rt; answer.end, 1);
+    Ok(())
+}
+
+#[test]
+fn gives_parsed_records(rt: HostRuntime) -> Result<(), Fail> {
+    let (mut records, mut answer) = ([7u8; 100], before());
+    rst_parse_records(rt.alloc(), b"a\n", b"", &OPTIONS, &mut records, &mut answer);
     assert_eq!(rt; text_in(&records, answer.length)?, RECORDS);
     Ok(())
 }
