@@ -39,8 +39,8 @@ pub fn roles()
     ensures caption { MeansHanding ":r" (".. figure:: a.png" ∷ "" ∷ "   :r:`b`" ∷ []) 0
         ("<document> 0" ∷ "    <figure> 1" ∷ "        <image uri=\"a.png\"> 1" ∷ "        <caption> 3"
         ∷ "            <handed kind=\"role\" name=\"r\" xml:space=\"preserve\"> 3" ∷ "                :r:`b`" ∷ []) }
-    ensures cell { MeansHanding ":r" ("=====" ∷ ":r:`b`" ∷ "=====" ∷ []) 0
-        ("<document> 0" ∷ "    <table> 1" ∷ "        <tgroup cols=\"1\"> 1" ∷ "            <colspec colwidth=\"5\"> 1" ∷ "            <tbody> 1"
-        ∷ "                <row> 1" ∷ "                    <entry> 1" ∷ "                        <paragraph> 2"
+    ensures cell { MeansHanding ":r" ("+--------+" ∷ "| :r:`b` |" ∷ "+--------+" ∷ []) 0
+        ("<document> 0" ∷ "    <table> 1" ∷ "        <tgroup cols=\"1\"> 1" ∷ "            <colspec colwidth=\"8\"> 1" ∷ "            <tbody> 0"
+        ∷ "                <row> 0" ∷ "                    <entry> 0" ∷ "                        <paragraph> 2"
         ∷ "                            <handed kind=\"role\" name=\"r\" xml:space=\"preserve\"> 2" ∷ "                                :r:`b`" ∷ []) }
 {}
