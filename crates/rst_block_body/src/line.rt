@@ -19,6 +19,7 @@ use rst_markup_blocks::indented_end;
 use rst_markup_lines::Marker;
 use rst_text::{View, skip};
 use std::alloc::AllocError;
+use std::mem;
 
 /// A line of a line block. It joins the lines before it where no blank one is between.
 pub fn bar_line(
@@ -54,14 +55,14 @@ fn add_line(level: &mut OpenBlock, text: BarText, end: usize) -> Result<()>
         × (level.old.at < end → level.new.at ≡ end)) result }
 {
     level.go_to(end);
-    match &mut level.run {
-        Run::Lines { lines, end: last } => {
+    match mem::replace(&mut level.run, Run::None) {
+        Run::Lines { mut lines, .. } => {
             lines.push(text)?;
-            *last = end;
-            Ok(())
+            level.run = Run::Lines { lines, end };
         }
-        _ => Ok(()),
+        run => level.run = run,
     }
+    Ok(())
 }
 
 /// The text after a bar and in the indented lines below it. A bar that is alone has no indentation of its own, and

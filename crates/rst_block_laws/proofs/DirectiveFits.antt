@@ -43,9 +43,10 @@ use Rattle.rst_block_nodes.specs.Readings.{read_nodes, read_notes, subtitled}
 use Rattle.rst_block_nodes.specs.Formulas.{formula, formulas_from, parts_of}
 use Rattle.rst_block_nodes.specs.Sections.{filled}
 use Rattle.rst_block_nodes.specs.Targets.{may_replace}
+use Rattle.rst_inline.specs.Elements.{handed_node}
 use Rattle.rst_block_nodes.specs.Texts.{counting}
 use Rattle.rst_block_nodes.specs.Values.{normalized, unescaped}
-use Rattle.rst_block_state.specs.Directives.{closed_by, content_lines, content_nodes, definition_nodes, definition_or_error, directive_by, directive_nodes, element_by, faulty_name, first_paragraph, opened_by, right_nodes, substitution_nodes, text_nodes as text_of_directive, titled_element, titled_start, closed_with, verse_nodes, classed, holding}
+use Rattle.rst_block_state.specs.Directives.{closed_by, handed_directive, content_lines, content_nodes, definition_nodes, definition_or_error, directive_by, directive_nodes, element_by, faulty_name, first_paragraph, opened_by, right_nodes, substitution_nodes, text_nodes as text_of_directive, titled_element, titled_start, closed_with, verse_nodes, classed, holding}
 use Rattle.rst_block_state.specs.Figures.{figure_nodes, legend_nodes, message_count}
 use Rattle.rst_block_state.specs.LineRuns.{number_or, verse_lines}
 use Rattle.rst_block_state.specs.Numbered.{just}

@@ -142,7 +142,7 @@ module _ (P : ℕ → Bool) (T : List ℕ → Type 0) (s : Suited P T) where
   pub called_has : (c : Within) (B : Block) (i : ℕ) (call : Invocation) (place : Place) → BlockKept P B → (R : Outcome → Type 0) → ((read : Read) → ReadHas read → R (right read)) → R handed → ((fault : Fault) (part : Part) → FaultHas fault → R (wrong fault part)) → R (called c B i call place)
   unfolding directive_of permitted content_fault
   called_has c B i call place b R good back bad =
-      either (is_handed_at B i call) (outcome _ _ (then_has BlockHas ReadHas FaultHas (judged_directive place _) _
+      known_or (is_handed_at B i call) (outcome _ _ (then_has BlockHas ReadHas FaultHas (judged_directive place _) _
       (then_has KindOpen BlockHas FaultHas (read_at B i call.block) _ (allowed_has _ _ (named_open _ _ c.code)) (λ kind any. block_has kind _ call.block _ any (lines_kept P B call.block b)))
       (λ read. judged read (option_fault (has_title read.argument) read.options) (option_or (fault_by read.kind.content _ _) (place_fault read.kind.allowed place)) (classes_fault read.argument) (options_have (has_title read.argument) read.options)
       (either (fault_by read.kind.content _ _) (place_fault read.kind.allowed place) (content_has read.kind.content _ _) (place_has read.kind.allowed place)) (classes_have read.argument))))
@@ -158,6 +158,6 @@ module _ (P : ℕ → Bool) (T : List ℕ → Type 0) (s : Suited P T) where
       outcome source (Ok read) h = good read h
       outcome source (Err fault) h = bad fault source h
 
-      either : {o : Outcome} (h : Bool) → R o → R (cond h handed o)
-      either true known = back
-      either false known = known
+      known_or : {o : Outcome} (h : Bool) → R o → R (cond h handed o)
+      known_or true known = back
+      known_or false known = known

@@ -150,12 +150,12 @@ module _ (P : ℕ → Bool) (T : List ℕ → Type 0) (s : Suited P T) (parts : 
     module _ (h : Kept P t) (within : Kept P (content t p)) (shown : Kept P (unescaped (content t p))) where
       interpreted_fits : (front : Bool) (suffix : Suffix) → MeaningFits nodes_by notes_by (interpreted_reading parts front suffix t p line)
       interpreted_fits true Bare =
-          cond_both (hands_role parts (text_bytes (prefix_role t p))) _ _ (MeaningFits nodes_by notes_by) (λ e. handed_fits _)
+          cond_both (hands_role parts (text_bytes (prefix_role t p))) _ _ (MeaningFits nodes_by notes_by) (λ e. handed_fits (text_bytes (prefix_role t p)))
           (λ e. role_fits (role_named parts.roles (text_bytes (prefix_role t p))) (prefix_role t p) _ (part_kept P t (p.from + 1) (p.content_from - 2) h) within shown)
       interpreted_fits true _ = wrong Warning _ (fixed_has P T s _ refl)
       interpreted_fits false Bare = cond_both (hands_role parts []) _ _ (MeaningFits nodes_by notes_by) (λ e. handed_fits []) (λ e. one TitleReference _ shown)
       interpreted_fits false RoleAfter =
-          cond_both (hands_role parts (text_bytes (suffix_role t p))) _ _ (MeaningFits nodes_by notes_by) (λ e. handed_fits _)
+          cond_both (hands_role parts (text_bytes (suffix_role t p))) _ _ (MeaningFits nodes_by notes_by) (λ e. handed_fits (text_bytes (suffix_role t p)))
           (λ e. role_fits (role_named parts.roles (text_bytes (suffix_role t p))) (suffix_role t p) _ (part_kept P t (p.content_to + 2) (p.to - 1) h) within shown)
       interpreted_fits false suffix = phrase_fits suffix (content t p) (embedded_at (content t p)) within
 
