@@ -290,7 +290,7 @@ module _ (P : ℕ → Bool) (T : List ℕ → Type 0) (s : Suited P T) (c : With
   directive_fits B g call b =
       called_has P T s c B g.start call _ b (λ o. Gives (AllFit T (k + 2)) (directive_by o c B g (excerpt (first_text (drop g.start B)) call.name)))
       (λ read h. right_fits B (first_number (drop g.start B)) read (span_source B g) b h (source_has P T s B g b))
-      (let own = handed_fits B g _ b in give_one (omega (arith, own.0.0), own.0.1))
+      (let own = handed_fits B g (excerpt (first_text (drop g.start B)) call.name) b in give_one (omega (arith, own.0.0), own.0.1))
       (λ fault part h. shown_fits (fault_level fault) B g _ b (fault_has fault _ h (excerpt_has P T s (first_text (drop g.start B)) call.name (first_kept P (drop g.start B) (all_drop _ g.start B b)))))
 
   -- ---- substitution definitions
@@ -315,5 +315,6 @@ module _ (P : ℕ → Bool) (T : List ℕ → Type 0) (s : Suited P T) (c : With
       let name : List ℕ = normalized (unescaped written) in
       called_has P T s c B g.start call Substitution b (λ o. Gives (AllFit T (k + 2)) (definition_or_error o c B g name (excerpt (first_text (drop g.start B)) call.name)))
       (λ read h. definition_fit B (first_number (drop g.start B)) name read (span_source B g) b h (normalized_has written n) (source_has P T s B g b))
-      (held_fit name _ _ (normalized_has written n) (handed_fits B g _ b))
+      (let own : List ℕ = excerpt (first_text (drop g.start B)) call.name in
+      held_fit name (first_number (drop g.start B)) (handed_directive B g own) (normalized_has written n) (handed_fits B g own b))
       (λ fault part h. shown_fits (fault_level fault) B g _ b (fault_has fault _ h (elim fault as (λ f. T (faulty_name f name (excerpt (first_text (drop g.start B)) call.name))) [ not_in_substitution ↦ normalized_has written n | _ ↦ excerpt_has P T s (first_text (drop g.start B)) call.name (first_kept P (drop g.start B) (all_drop _ g.start B b)) ])))

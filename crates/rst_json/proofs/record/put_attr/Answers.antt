@@ -15,7 +15,7 @@ returns c =
     let a = c.args.attr.now in
     let included : (not c.args.all && is_left_out a) ≡ false = elim c.else-not-all.branch [
       | else-not-all-via-then-not-all+else-is_left_out w ↦ ap (λ left. not c.args.all && left) (sym w.is_left_out.ensures ∙ w.if-is_left_out.false) ∙ and_false (not c.args.all)
-      | else-not-all-via-else-not-all w ↦ ap (λ b. b && is_left_out a) w.if-not-all.false
+      | else-not-all-via-else-not-all w ↦ ap (λ b. not b && is_left_out a) w.if-not-all.false
     ] in
     sealed c.args.out.now.items (sized (key_name a.key) ++ value_record a.value) c.put_value.new.out.items c.seal.new.out.items c.len-start.result (search rules)
     (c.in_ok-put_value.ensures
