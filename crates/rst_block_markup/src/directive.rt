@@ -55,12 +55,12 @@ pub(crate) fn directive_at(
     ensures parts { IfOk result (IsDirectiveIn (block_of view.now)) }
     ensures numbers { pass.new.numbers ≡ pass.old.numbers }
     ensures looked { let lines = invocation.now.block.to - invocation.now.block.from in
-        IfOk result (λ _. Looked 1 (8 + 2 * lines) pass.old.looks pass.new.looks) }
+        IfOk result (λ _. Looked 1 (9 + 2 * lines) pass.old.looks pass.new.looks) }
 {
+    let kind = called(pass.alloc, view, at, invocation, &mut pass.looks)?;
     if is_handed(view, at, invocation, pass)? {
         return Ok(Directive::Handed);
     }
-    let kind = called(pass.alloc, view, at, invocation, &mut pass.looks)?;
     let block = invocation.block;
     let paragraph = is_paragraph(kind, view, block, &mut pass.looks);
     Ok(directive(
