@@ -1,0 +1,95 @@
+"""Docutils' own machine in a document that the library has read, for the directives and roles that are handed back to it."""
+
+from __future__ import annotations
+
+import re
+from typing import Any
+
+from docutils import nodes, utils
+from docutils.parsers.rst import languages, states
+from docutils.statemachine import StringList
+
+_ROLE = re.compile(r"(?::(?P<before>[^`]*):)?`(?P<text>.*)`(?::(?P<behind>[^`]*):)?", re.DOTALL)
+_BREAK = re.compile("\r\n|\r|\n")
+_SPACES = re.compile("[\v\f]")
+
+
+def lines_of(text: str, tab_width: int, source: str) -> StringList:
+    """The lines of a text as the library numbers them, without tabs and the white at their ends."""
+    lines = _BREAK.split(_SPACES.sub(" ", text.removeprefix("\ufeff")))
+    if not lines[-1]:
+        lines.pop()
+    return StringList([line.expandtabs(tab_width).rstrip() for line in lines], source)
+
+
+class Machine:
+    """A machine of Docutils that stands in a document as if it had read it up to what is handed back."""
+
+    def __init__(self, document: Any, lines: StringList, inliner: Any, state_classes: Any) -> None:
+        reporter = document.reporter
+        root: Any = states.RSTStateMachine(state_classes, "Body", reporter.debug_flag)
+        self.root, self.document, self.lines, self.state_classes = root, document, lines, state_classes
+        self.inliner = inliner or states.Inliner()
+        self.inliner.init_customizations(document.settings)
+        root.language = languages.get_language(document.settings.language_code, reporter)
+        root.match_titles = True
+        root.document = root.node = document
+        root.reporter = reporter
+        self.memo = root.memo = states.Struct(
+            document=document,
+            reporter=reporter,
+            language=root.language,
+            title_styles=[],
+            section_level=0,
+            section_bubble_up_kludge=False,
+            inliner=self.inliner,
+        )
+        self.inliner.reporter, self.inliner.document, self.inliner.language = reporter, document, root.language
+        root.input_lines, root.input_offset, root.line_offset = lines, 0, 0
+        root.runtime_init()
+        self.running: Any = root
+        reporter.get_source_and_line = self.source_and_line
+
+    def end(self) -> None:
+        """Drops what binds the machine and the document to one another."""
+        self.root.unlink()
+        self.root.node = self.root.memo = None
+
+    def source_and_line(self, line: int | None = None) -> tuple[Any, Any]:
+        """The source of a line, and its number there; of the line at which the machine stands, if none is given."""
+        running = self.running if line is not None or self.memo.section_level == 0 else self.root
+        found = running.get_source_and_line(line)
+        if found == (None, None) and running is not self.root:
+            found = self.root.get_source_and_line(line)
+        source, number = found
+        return source, number
+
+    def run(self, lines: StringList, line: int, parent: Any, in_section: bool) -> tuple[StringList, int, int]:
+        """Reads lines, the first of which is `line`, into a parent.
+
+        Gives the lines that are left, since a title of them begins a section outside of the parent; the number of the first of these; and
+        how many lines directives have added.
+        """
+        machine: Any = states.NestedStateMachine(self.state_classes, "Body", self.document.reporter.debug_flag)
+        count = len(lines)
+        outer, self.running = self.running, machine
+        machine.run(lines, line - 1, self.memo, parent, in_section)
+        self.running = outer
+        place, left = machine.line_offset + 1, machine.input_lines
+        machine.unlink()
+        return left[place:], line + place, len(left) - count
+
+    def role(self, name: str, source: str, line: int, parent: Any) -> tuple[list[Any], list[Any]]:
+        """The nodes and messages of a role, given its source text, in a text whose block is in a parent."""
+        found = _ROLE.fullmatch(source)
+        text = found["text"] if found else source
+        self.inliner.parent = parent
+        made: tuple[list[Any], list[Any]] = self.inliner.interpreted(source, utils.escape2null(text), name, line)
+        return made
+
+
+def style_of(lines: StringList, line: int, last: int) -> Any:
+    """The style of the title at a line, as Docutils keeps it. `last` is the line of the title before it."""
+    below: str = lines[line] if line < len(lines) else ""
+    above = lines[line - 2] if line > 1 and line - 2 != last else ""  # no overline, if it is the underline of that title
+    return (below[0], below[0]) if below and above == below else below[:1]
