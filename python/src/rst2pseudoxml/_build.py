@@ -23,7 +23,9 @@ _HIDDEN = ("inline", "mark", "message", "own_name", "rawsource", "serial", "text
 # Where the text of these has a message on a name, it goes to the parent of the block that they are in.
 _OF_BLOCK = frozenset({"title", "subtitle", "attribution", "term", "classifier", "field_name", "line"})
 _LATER = frozenset({"attribution", "term", "classifier", "field_name", "line", "caption"})  # messages on these don't follow at once
+_BEGINS_WITH_NOTES = frozenset({"definition", "field_body", "legend"})
 _FIRST_OUTSIDE = frozenset({"definition_list", "field_list", "line_block"})  # the same holds for the first part of these
+_PLAIN = frozenset({"paragraph", "block_quote", "literal_block", "doctest_block", "table", "transition"})
 _PSEUDO_SECTIONS = frozenset({"topic", "sidebar"})
 _OF_DIRECTIVES = frozenset(
     "admonition attention caution compound container danger error figure hint important note sidebar tip topic warning".split()
@@ -50,11 +52,22 @@ class Builder:
         """Puts what was read into the document."""
         _number(root, self.read)
         self.put_all(root[3:])
+        self.machine.at = 0
+        self.machine.root.line_offset = len(self.items) + (len(root) > 3 and self.is_past_end(root[-1]))
+
+    def is_past_end(self, last: Any) -> bool:
+        """Whether Docutils' machine ends behind the end of the text, so that a message without a line has none. It goes there from a list."""
+        lines = self.machine.lines
+        tag, line = last[:2]
+        if self.machine.memo.section_level or tag not in (*_PLAIN, "target"):
+            return True
+        return bool(lines[-1]) and (tag == "target" or self.machine.row(line).startswith(".."))
 
     def put_all(self, children: list[Any]) -> None:
         """Puts what is directly in the document or in a section into what is open then."""
         for found in children:
             current = self.open[-1]
+            self.machine.stand(found[0], found[1])
             if found[0] == "section":
                 self.section(found)
             else:
@@ -133,7 +146,7 @@ class Builder:
             return
         if tag in _OF_DIRECTIVES:
             _note_end(found)
-        elif tag in ("definition", "field_body"):
+        elif tag in _BEGINS_WITH_NOTES:
             self.flush(node)
         if tag in _PSEUDO_SECTIONS:
             titles = _titles(inside)
@@ -146,7 +159,10 @@ class Builder:
         """Gives an element the name that it was written with, if there is one."""
         if "own_name" in given:
             node.attributes["names"].append(given["own_name"])
+            place = node.source, node.line
+            node.source = node.line = None  # as in Docutils a message has the line at which the machine stands
             self.document.note_explicit_target(node, holder)
+            node.source, node.line = place
 
     def section(self, found: list[Any]) -> None:
         """Begins a section: in the section whose title has the style before its own, among the styles in use."""
@@ -243,6 +259,7 @@ class Builder:
 
     def target(self, parent: Any, found: list[Any], holder: Any) -> None:
         node, given = self.new(found), found[2]
+        node.rawsource = self.source_of(found[1], until_blank=True) if "refname" in given else ""
         self.put(node, found[3:], holder, holder)
         if "inline" in given:
             node.source = node.line = None
@@ -251,7 +268,9 @@ class Builder:
             node.source, node.line = None, found[1]
         if "anonymous" in given:
             self.document.note_anonymous_target(node)
-        self.name(node, given, holder)
+        if "own_name" in given:
+            node.attributes["names"].append(given["own_name"])
+            self.document.note_explicit_target(node, holder)
         if "refname" in given:
             node.indirect_reference_name = given["refname"]
             self.document.note_indirect_target(node)
@@ -276,7 +295,8 @@ class Builder:
         node = self.new(found)
         self.put(node, found[3:4], node, node)
         self.document.note_citation(node)
-        self.name(node, found[2], node)
+        node.attributes["names"].append(found[2]["own_name"])
+        self.document.note_explicit_target(node, node)
         _attach(parent, node)
         self.put(node, found[4:], node, node)
 
@@ -303,6 +323,7 @@ class Builder:
             self.handed(parent, first, holder)
             return
         node, name = self.new(found), found[2]["own_name"]
+        node.rawsource = self.source_of(found[1], until_blank=False)
         node["names"].append(name)
         inside = nodes.Element()
         self.put(node, found[3:], inside, inside)
@@ -331,6 +352,18 @@ class Builder:
             if in_section and count:  # the lines that the directive added may have left sections open, or ended some
                 self.reopen(parent, bool(lines))
                 parent = self.open[-1]
+
+    def source_of(self, line: int, until_blank: bool) -> str:
+        """The source text of explicit markup that begins at a line."""
+        lines = self.machine.lines
+        first = self.machine.row(line)
+        column = max(first.find(".. "), 0)
+        rows = [first[column:]]
+        for row in lines[line:]:
+            if row[: column + 1].strip() or (until_blank and not row):
+                break
+            rows.append(row[column:])
+        return "\n".join(rows)
 
     def lines_of(self, rows: list[str], line: int, is_last: bool) -> StringList:
         """The lines of a directive, with the blank lines after them if they belong to it."""

@@ -10,6 +10,7 @@ from docutils.parsers.rst import languages, states
 from docutils.statemachine import StringList
 
 _ROLE = re.compile(r"(?::(?P<before>[^`]*):)?`(?P<text>.*)`(?::(?P<behind>[^`]*):)?", re.DOTALL)
+_EXPLICIT = re.compile(r"\.\. |__ |\.\.$|__$")
 _BREAK = re.compile("\r\n|\r|\n")
 _SPACES = re.compile("[\v\f]")
 
@@ -48,6 +49,7 @@ class Machine:
         root.input_lines, root.input_offset, root.line_offset = lines, 0, 0
         root.runtime_init()
         self.running: Any = root
+        self.at, self.at_paragraph = 0, False  # the line of the block at which the machine stands, while there is no section
         reporter.get_source_and_line = self.source_and_line
 
     def end(self) -> None:
@@ -57,12 +59,39 @@ class Machine:
 
     def source_and_line(self, line: int | None = None) -> tuple[Any, Any]:
         """The source of a line, and its number there; of the line at which the machine stands, if none is given."""
-        running = self.running if line is not None or self.memo.section_level == 0 else self.root
-        found = running.get_source_and_line(line)
-        if found == (None, None) and running is not self.root:
-            found = self.root.get_source_and_line(line)
+        if line is None:
+            if self.at:
+                self.root.line_offset = self.end_of(self.at)
+            found = self.root.get_source_and_line()
+        else:
+            found = self.running.get_source_and_line(line)
+            if found == (None, None):
+                found = self.root.get_source_and_line(line)
         source, number = found
         return source, number
+
+    def row(self, line: int) -> str:
+        """The text of a line; it is empty where there is none."""
+        lines: list[str] = self.lines.data
+        return lines[line - 1] if 0 < line <= len(lines) else ""
+
+    def stand(self, tag: str, line: int) -> None:
+        """Goes to a block of the document. Docutils' machine stands at the first block of neighbouring explicit markup until it ends."""
+        if self.memo.section_level or not line:
+            self.at = 0
+        elif not (self.at and _EXPLICIT.match(self.row(line)) and _EXPLICIT.match(self.row(self.at))):
+            self.at, self.at_paragraph = line, tag == "paragraph"
+
+    def end_of(self, line: int) -> int:
+        """The place of the line at which Docutils' machine stands when it has read the block that begins at a line, or its first item."""
+        end = line
+        if not self.at_paragraph:
+            while end < len(self.lines) and self.row(end + 1)[:1] in ("", " "):
+                end += 1
+            return end - 1
+        while self.row(end + 1):
+            end += 1
+        return end - (end > line)
 
     def run(self, lines: StringList, line: int, parent: Any, in_section: bool) -> tuple[StringList, int, int]:
         """Reads lines, the first of which is `line`, into a parent.

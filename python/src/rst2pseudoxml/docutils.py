@@ -66,7 +66,7 @@ class Parser(rst.Parser):
         directives, roles = self.names.of(written, document.settings.language_code) if self.names else (set(), set())
         if not directives and not roles:
             return False
-        made = _parsed(text, directives, roles, _settings_of(document, self.profile))
+        made = parsed(text, directives, roles, _settings_of(document, self.profile))
         if not _HANDED.search(made):
             return False
         lines = lines_of(written, getattr(document.settings, "tab_width", 8), document["source"])
@@ -150,7 +150,7 @@ def _settings_of(document: Any, profile: str) -> Any:
     }
 
 
-def _parsed(text: Text, directives: Iterable[str], roles: Iterable[str], settings: Settings) -> str:
+def parsed(text: Text, directives: Iterable[str], roles: Iterable[str], settings: Settings) -> str:
     """The document as the library parses it, before the transforms, as JSON; names in these sets are handed back."""
     names = [" ".join(sorted(names)) for names in (directives, roles)]
     run = subprocess.run(
