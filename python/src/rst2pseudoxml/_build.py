@@ -346,10 +346,12 @@ class Builder:
             return
         in_section = parent is self.open[-1]
         lines = self.lines_of(source.split("\n"), line, _IS_LAST in given)
+        has_more = False
         while lines:
             lines, line, count = self.machine.run(lines, line, parent, in_section)
             self.added += count
-            if in_section and count:  # the lines that the directive added may have left sections open, or ended some
+            has_more = has_more or count > 0
+            if in_section and has_more:  # the lines that the directive added may have left sections open, or ended some
                 self.reopen(parent, bool(lines))
                 parent = self.open[-1]
 

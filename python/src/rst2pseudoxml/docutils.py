@@ -21,18 +21,21 @@ import re
 import subprocess
 from copy import copy
 from json import loads
-from typing import Any, Iterable
+from typing import TYPE_CHECKING, Any, Iterable
 
 from docutils import frontend, nodes, readers, utils
 from docutils.parsers import rst
 from docutils.readers import standalone
 from docutils.transforms import Transform, frontmatter, references, universal
 
-from . import HALTED, LIBRARY, Settings, Text, answer, collector_paused, messages, options_of
+from . import HALTED, LEVELS, LIBRARY, Settings, Text, answer, collector_paused, messages, options_of
 from ._build import build
 from ._machine import lines_of
 from ._names import Hand, Names
 from ._nodes import fill
+
+if TYPE_CHECKING:
+    from typing_extensions import Unpack
 
 _DONE = set(standalone.Reader().get_transforms()) - set(readers.Reader().get_transforms()) - {frontmatter.SectionSubTitle}
 _HANDED = re.compile(r'\["handed",')
@@ -102,6 +105,27 @@ def doctree(text: Text, settings: Any = None, source: str = "<stdin>", profile: 
     document.current_source = document.current_line = None
     made: nodes.document = document
     return made
+
+
+def pseudoxml(text: Text, source: str = "<stdin>", hand: Hand = "registered", **given: Unpack[Settings]) -> str:
+    """The tree of a document as `rst2pseudoxml.pseudoxml` prints it, with what Docutils makes of what is handed back to it.
+
+    The settings are those of `rst2pseudoxml`, with "docutils" as the profile if none is given. A message that halts is a
+    `docutils.utils.SystemMessage`, and nothing is written.
+    """
+    options_of(given)  # refuses wrong ones
+    settings = copy(_defaults())
+    settings.warning_stream = False
+    settings.report_level = LEVELS[given.get("report", "warning")]
+    settings.halt_level = LEVELS[given.get("halt", "severe")]
+    settings.doctitle_xform = not given.get("no_doc_title")
+    settings.docinfo_xform = not given.get("no_doc_info")
+    settings.tab_width = given.get("tab_width", 8)
+    settings.line_length_limit = given.get("line_length_limit", 10_000)
+    document = doctree(text, settings, source, given.get("profile", "docutils"), hand)
+    for transform in (universal.Messages, universal.FilterMessages):
+        transform(document).apply()
+    return str(document.pformat())
 
 
 _ALL = standalone.Reader().get_transforms() + Parser().get_transforms()
