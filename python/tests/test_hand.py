@@ -154,10 +154,9 @@ EXTENSIONS = {
 
 
 class Examples(unittest.TestCase):
-    def same(self, text, **settings):
-        roles._roles.clear()
+    def same(self, text, lowest=1, **settings):
         for hand in ("registered", "all"):
-            level = 2 if hand == "registered" else 1  # on an unknown name Docutils has an INFO more
+            level = 2 if hand == "registered" else lowest  # on an unknown name Docutils has an INFO more
             wanted = published(text, report_level=level, **settings)
             got = published(text, Parser(hand=hand), report_level=level, **settings)
             self.assertEqual(got[0], wanted[0], hand)
@@ -189,7 +188,7 @@ class Examples(unittest.TestCase):
             for above, title in (("", ""), ("A\n=\n\n", "B\n-\n\n"), ("", "In\n==\n\n"), ("A\n-\n\nB\n=\n\n", "C\n-\n\n")):
                 for given in ({}, {"file_insertion_enabled": False}):
                     with self.subTest(above=above, title=title, **given):
-                        self.same(text.format(above, title), source=str(folder / "page.rst"), **given)
+                        self.same(text.format(above, title), 2, source=str(folder / "page.rst"), **given)
 
     def test_default_role(self):
         text = "`a` :title:`b` `c`_\n"
@@ -258,8 +257,8 @@ class Names(unittest.TestCase):
         for profile, (of_directives, of_roles) in _names.OWN.items():
             for name in {*directives._directive_registry, *of_directives, *_names.languages.en.directives}:
                 said = [message.text for message in rst2pseudoxml.messages(f".. {name}:: a\n\n   b", profile=profile, halt="none")]
-                known = f'Unknown directive type "{name}".' not in said and '"include" directive disabled.' not in said
-                self.assertEqual(name in of_directives, known, (profile, name))
+                if name != "include":  # it is known, but no file is read
+                    self.assertEqual(name in of_directives, f'Unknown directive type "{name}".' not in said, (profile, name))
             for name in {*roles._role_registry, *of_roles, *_names.languages.en.roles}:
                 said = [message.text for message in rst2pseudoxml.messages(f":{name}:`a`", profile=profile, halt="none")]
                 self.assertEqual(name in of_roles, f'Unknown interpreted text role "{name}".' not in said, (profile, name))
@@ -303,7 +302,7 @@ class Printed(unittest.TestCase):
 
     def test_assertion(self):
         register()
-        tree = '<document source="<stdin>">\n    <paragraph>\n        1 paragraphs, a\n'
+        tree = '<document source="<stdin>">\n    <paragraph>\n        0 paragraphs, a\n'
         assert_tree(".. count:: a", tree, hand="registered")
         for given in ({}, {"hand": "registered", "report": 1}):
             with self.assertRaises(AssertionError):

@@ -89,9 +89,12 @@ class _Silent:
 def _found(name: str, kind: int, language: Any) -> Any:
     """What Docutils runs for a name now; None if it knows none."""
     silent: Any = _Silent()
-    if kind == 0:
-        return directives.directive(name, language, silent)[0]
-    return roles.role(name, language, 0, silent)[0]
+    kept: Any = (directives._directives, roles._roles)[kind]
+    is_kept = name in kept
+    found = (directives.directive(name, language, silent) if kind == 0 else roles.role(name, language, 0, silent))[0]
+    if not is_kept:
+        kept.pop(name, None)  # so that Docutils says how it found the name when it is used
+    return found
 
 
 def _is_of_docutils(found: Any) -> bool:
