@@ -246,6 +246,8 @@ class Builder:
         node, given = self.new(found), found[2]
         self.put(node, found[3:], holder, holder)
         _attach(parent, node)
+        if isinstance(node.children[0] if node.children else None, nodes.substitution_reference):
+            node.children[0].rawsource = node.rawsource
         if "refname" not in given:
             return
         alias = _ALIAS.search(node.rawsource)
