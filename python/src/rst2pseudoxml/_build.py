@@ -6,8 +6,9 @@ messages are reported.
 
 from __future__ import annotations
 
+import functools
 import re
-from typing import Any, Callable
+from typing import Any, Callable, Optional
 
 from docutils import nodes, utils
 from docutils.nodes import fully_normalize_name, whitespace_normalize_name
@@ -15,6 +16,9 @@ from docutils.parsers.rst import roles
 from docutils.statemachine import StringList
 
 from ._machine import Machine, style_of
+
+Read = Callable[[str], Optional[list[Any]]]
+"""What the library has parsed of a text; None if it refuses the text."""
 
 _CLASSES = vars(nodes)
 _new_element, _new_text, _Text, _TextElement = object.__new__, str.__new__, nodes.Text, nodes.TextElement
@@ -26,6 +30,7 @@ _LATER = frozenset({"attribution", "term", "classifier", "field_name", "line", "
 _BEGINS_WITH_NOTES = frozenset({"definition", "field_body", "legend"})
 _FIRST_OUTSIDE = frozenset({"definition_list", "field_list", "line_block"})  # the same holds for the first part of these
 _PLAIN = frozenset({"paragraph", "block_quote", "literal_block", "doctest_block", "table", "transition"})
+_OF_TITLES = frozenset({"section"})
 _PSEUDO_SECTIONS = frozenset({"topic", "sidebar"})
 _OF_DIRECTIVES = frozenset(
     "admonition attention caution compound container danger error figure hint important note sidebar tip topic warning".split()
@@ -36,10 +41,11 @@ _ALIAS = re.compile(r"<([^<>]*)_>`_\Z", re.DOTALL)
 class Builder:
     """Builds a document."""
 
-    def __init__(self, document: Any, machine: Machine) -> None:
+    def __init__(self, document: Any, machine: Machine, lines: StringList, parent: Any, offset: int = 0) -> None:
         self.document, self.machine, self.reporter = document, machine, document.reporter
-        self.items = machine.lines.items
-        self.open: list[Any] = [document]  # the sections that are open, and the document
+        self.lines, self.items = lines, lines.items
+        self.offset = offset  # what Docutils adds to the number of a line
+        self.open: list[Any] = [parent]  # the sections that are open, and what they are in; titles may be directly in it
         self.last = -1  # the line of the last title
         self.added = 0  # how many lines directives have added
         self.made: dict[Any, Any] = {}  # messages that were made for a problematic, by their numbers
@@ -55,13 +61,26 @@ class Builder:
         self.machine.at = 0
         self.machine.root.line_offset = len(self.items) + (len(root) > 3 and self.is_past_end(root[-1]))
 
+    def fill_inside(self, parent: Any, children: list[Any]) -> None:
+        """Puts what was read of a part of the document into a parent."""
+        for found in children:
+            _number(found, self.read)
+            if found[0] == "system_message" and "message" in found[2]:
+                self.read[found[2]["message"]] = found
+        self.put(parent, children, parent, parent)
+
     def is_past_end(self, last: Any) -> bool:
         """Whether Docutils' machine ends behind the end of the text, so that a message without a line has none. It goes there from a list."""
-        lines = self.machine.lines
+        lines = self.lines
         tag, line = last[:2]
         if self.machine.memo.section_level or tag not in (*_PLAIN, "target"):
             return True
-        return bool(lines[-1]) and (tag == "target" or self.machine.row(line).startswith(".."))
+        return bool(lines[-1]) and (tag == "target" or self.row(line).startswith(".."))
+
+    def row(self, line: int) -> str:
+        """The text of a line; it is empty where there is none."""
+        lines: list[str] = self.lines.data
+        return lines[line - 1] if 0 < line <= len(lines) else ""
 
     def put_all(self, children: list[Any]) -> None:
         """Puts what is directly in the document or in a section into what is open then."""
@@ -113,6 +132,8 @@ class Builder:
         """An element of which nothing but its name is noted."""
         node, given, inside = self.new(found), found[2], found[3:]
         tag = node.tagname
+        if tag == "table" and self.open[0] is not self.document:
+            node.source = node.line = None  # as it is in Docutils while a directive has it
         if isinstance(node, _TextElement):
             self.put(node, inside, holder, holder)
             if isinstance(node, _FIXED) and len(inside) == 1 and inside[0].__class__ is str:
@@ -168,7 +189,7 @@ class Builder:
         """Begins a section: in the section whose title has the style before its own, among the styles in use."""
         line, title = found[1], found[3]
         memo = self.machine.memo
-        style = style_of(self.machine.lines, title[1], self.last)
+        style = style_of(self.lines, title[1], self.last)
         self.last = title[1]
         styles: list[Any] = memo.title_styles
         if style not in styles and len(styles) == memo.section_level:
@@ -201,7 +222,7 @@ class Builder:
     def inconsistent(self, found: list[Any], style: Any) -> None:
         """A title of a style that may not stand here: what follows belongs to the section before it."""
         line = found[3][1]
-        lines = self.machine.lines[line - len(style) : line + 1]
+        lines = self.lines[line - len(style) : line + 1]
         source = "\n".join(lines)
         block = nodes.literal_block("", source)
         self.open[-1] += self.reporter.severe("Title level inconsistent:", block, line=line + 2 - len(style))
@@ -214,7 +235,7 @@ class Builder:
         if key not in self.made:
             text, blocks = found[3][3], [one[3] if len(one) > 3 else "" for one in found[4:]]
             shown = [nodes.literal_block(block, block) for block in blocks]
-            self.made[key] = self.reporter.system_message(given["level"], text, *shown, line=given["line"])
+            self.made[key] = self.reporter.system_message(given["level"], text, *shown, line=given["line"] + self.offset)
         return self.made[key]
 
     def message(self, parent: Any, found: list[Any], holder: Any) -> None:
@@ -267,7 +288,7 @@ class Builder:
             node.source = node.line = None
             node.referenced = int("refuri" in given)
         else:
-            node.source, node.line = None, found[1]
+            node.source, node.line = None, found[1] + self.offset
         if "anonymous" in given:
             self.document.note_anonymous_target(node)
         if "own_name" in given:
@@ -276,7 +297,7 @@ class Builder:
         if "refname" in given:
             node.indirect_reference_name = given["refname"]
             self.document.note_indirect_target(node)
-        if parent is self.open[-1]:  # as Docutils has it, lines that were added count here
+        if parent is self.open[-1] and self.open[0] is self.document:  # as Docutils has it, lines that were added count here
             node.source, node.line = self.place(found[1])[0], found[1] + self.added
         _attach(parent, node)
 
@@ -339,7 +360,7 @@ class Builder:
         """What is handed back: a role in a text, or a directive."""
         _, line, given, source = found
         if given["kind"] == "role":
-            made, messages = self.machine.role(given["name"], source, line, holder)
+            made, messages = self.machine.role(given["name"], source, line + self.offset, holder)
             for node in made:
                 _attach(parent, node)
             if messages:
@@ -348,19 +369,20 @@ class Builder:
             return
         in_section = parent is self.open[-1]
         lines = self.lines_of(source.split("\n"), line, _IS_LAST in given)
+        line += self.offset
         has_more = False
         while lines:
             lines, line, count = self.machine.run(lines, line, parent, in_section)
             self.added += count
             has_more = has_more or count > 0
-            if in_section and has_more:  # the lines that the directive added may have left sections open, or ended some
+            if in_section and has_more and self.open[0] is self.document:  # the lines that the directive added may have left sections open, or ended some
                 self.reopen(parent, bool(lines))
                 parent = self.open[-1]
 
     def source_of(self, line: int, until_blank: bool) -> str:
         """The source text of explicit markup that begins at a line."""
-        lines = self.machine.lines
-        first = self.machine.row(line)
+        lines = self.lines
+        first = self.row(line)
         column = max(first.find(".. "), 0)
         rows = [first[column:]]
         for row in lines[line:]:
@@ -373,7 +395,7 @@ class Builder:
         """The lines of a directive, with the blank lines after them if they belong to it."""
         first = line - 1
         end = first + len(rows)
-        while not is_last and end < len(self.items) and not self.machine.lines[end]:
+        while not is_last and end < len(self.items) and not self.lines[end]:
             rows.append("")
             end += 1
         return StringList(rows, items=self.items[first:end])
@@ -391,12 +413,36 @@ class Builder:
         memo.section_level = len(self.open) - 1
 
 
-def build(document: Any, lines: StringList, inliner: Any, state_classes: Any, made: list[Any]) -> None:
-    """Puts what the library has parsed into a document. Its lines are those of the text."""
-    machine = Machine(document, lines, inliner, state_classes)
-    Builder(document, machine).fill(made)
+def build(document: Any, lines: StringList, inliner: Any, state_classes: Any, read: Read, made: list[Any]) -> None:
+    """Puts what the library has parsed into a document. Its lines are those of the text; `read` parses a text with the same names."""
+    machine = Machine(document, lines, inliner, state_classes, functools.partial(_build_inside, read, document))
+    Builder(document, machine, lines, document).fill(made)
     machine.end()
     roles._roles.pop("", None)  # the default role is as before
+
+
+def _build_inside(read: Read, document: Any, machine: Machine, block: StringList, offset: int, parent: Any, titles: bool) -> bool:
+    """Reads lines of a directive into a parent, if they need no machine of Docutils.
+
+    They need one if they hold titles. Where titles may not be, lines are read as those of a list item.
+    """
+    if titles:
+        lines = block
+        made = read("\n".join(block) + "\n")
+        children = made[3:] if made else None
+    else:
+        if all(row[:1] in ("", " ") for row in block):
+            return False
+        lines = StringList(["-", "", *(row and "  " + row for row in block)], items=[*block.items[:1] * 2, *block.items])
+        made = read("\n".join(lines) + "\n")
+        children = made[3][3][3:] if made and len(made) == 4 and made[3][0] == "bullet_list" and len(made[3]) == 4 else None
+    if children is None or not all(found[0] not in _OF_TITLES for found in children):
+        return False
+    builder = Builder(document, machine, lines, parent if titles else None, offset if titles else offset - 2)
+    builder.fill_inside(parent, children)
+    if block.items:
+        document.note_source(*block.items[-1])  # where Docutils' machine would be
+    return True
 
 
 _IS_LAST = "is_last"

@@ -3,7 +3,7 @@
 from __future__ import annotations
 
 import re
-from typing import Any
+from typing import Any, Callable
 
 from docutils import nodes, utils
 from docutils.parsers.rst import languages, states
@@ -23,13 +23,19 @@ def lines_of(text: str, tab_width: int, source: str) -> StringList:
     return StringList([line.expandtabs(tab_width).rstrip() for line in lines], source)
 
 
+Inside = Callable[["Machine", StringList, int, Any, bool], bool]
+"""Reads lines of a directive into a parent, as `nested_parse` of Docutils does, if the library can do so."""
+
+
 class Machine:
     """A machine of Docutils that stands in a document as if it had read it up to what is handed back."""
 
-    def __init__(self, document: Any, lines: StringList, inliner: Any, state_classes: Any) -> None:
+    def __init__(self, document: Any, lines: StringList, inliner: Any, state_classes: Any, inside: Inside) -> None:
         reporter = document.reporter
         root: Any = states.RSTStateMachine(state_classes, "Body", reporter.debug_flag)
-        self.root, self.document, self.lines, self.state_classes = root, document, lines, state_classes
+        self.root, self.document, self.lines = root, document, lines
+        self.state_classes = [self.reading(state, inside) if state.__name__ == "Body" else state for state in state_classes]
+        self.idle: list[Any] = []  # machines that were used
         self.inliner = inliner or states.Inliner()
         self.inliner.init_customizations(document.settings)
         root.language = languages.get_language(document.settings.language_code, reporter)
@@ -54,8 +60,20 @@ class Machine:
 
     def end(self) -> None:
         """Drops what binds the machine and the document to one another."""
-        self.root.unlink()
+        for machine in (self.root, *self.idle):
+            machine.unlink()
         self.root.node = self.root.memo = None
+
+    def reading(self, body: Any, inside: Inside) -> Any:
+        """The state in which a directive is read: what the directive has read in it is read by the library, where that can be."""
+
+        class Body(body):  # type: ignore[misc]
+            def nested_parse(state, block: Any, input_offset: int, node: Any, match_titles: Any = False, *given: Any, **named: Any) -> Any:
+                if not given and not named and inside(self, block, input_offset, node, bool(match_titles)):
+                    return input_offset + len(block)
+                return super().nested_parse(block, input_offset, node, match_titles, *given, **named)
+
+        return Body
 
     def source_and_line(self, line: int | None = None) -> tuple[Any, Any]:
         """The source of a line, and its number there; of the line at which the machine stands, if none is given."""
@@ -99,13 +117,13 @@ class Machine:
         Gives the lines that are left, since a title of them begins a section outside of the parent; the number of the first of these; and
         how many lines directives have added.
         """
-        machine: Any = states.NestedStateMachine(self.state_classes, "Body", self.document.reporter.debug_flag)
+        machine: Any = self.idle.pop() if self.idle else states.NestedStateMachine(self.state_classes, "Body", self.document.reporter.debug_flag)
         count = len(lines)
         outer, self.running = self.running, machine
         machine.run(lines, line - 1, self.memo, parent, in_section)
         self.running = outer
         place, left = machine.line_offset + 1, machine.input_lines
-        machine.unlink()
+        self.idle.append(machine)
         return left[place:], line + place, len(left) - count
 
     def role(self, name: str, source: str, line: int, parent: Any) -> tuple[list[Any], list[Any]]:

@@ -21,14 +21,14 @@ import re
 import subprocess
 from copy import copy
 from json import loads
-from typing import TYPE_CHECKING, Any, Iterable
+from typing import TYPE_CHECKING, Any, Callable, Iterable
 
 from docutils import frontend, nodes, readers, utils
 from docutils.parsers import rst
 from docutils.readers import standalone
 from docutils.transforms import Transform, frontmatter, references, universal
 
-from . import HALTED, LEVELS, LIBRARY, Settings, Text, answer, collector_paused, messages, options_of
+from . import HALTED, LEVELS, LIBRARY, Refused, Settings, Text, answer, collector_paused, messages, options_of
 from ._build import build
 from ._machine import lines_of
 from ._names import Hand, Names
@@ -69,11 +69,12 @@ class Parser(rst.Parser):
         directives, roles = self.names.of(written, document.settings.language_code) if self.names else (set(), set())
         if not directives and not roles:
             return False
-        made = parsed(text, directives, roles, _settings_of(document, self.profile))
+        settings = _settings_of(document, self.profile)
+        made = parsed(text, directives, roles, settings)
         if not _HANDED.search(made):
             return False
-        lines = lines_of(written, getattr(document.settings, "tab_width", 8), document["source"])
-        build(document, lines, self.inliner, self.state_classes, loads(made))
+        lines = lines_of(written, settings["tab_width"], document["source"])
+        build(document, lines, self.inliner, self.state_classes, reading(self.names, document, settings), loads(made))
         self.finish_parse()
         return True
 
@@ -181,6 +182,18 @@ def parsed(text: Text, directives: Iterable[str], roles: Iterable[str], settings
         [os.environ["RST_PARSE_PROGRAM"], *names], input=text.encode() if isinstance(text, str) else bytes(text), stdout=subprocess.PIPE, check=True
     )
     return run.stdout.decode()
+
+
+def reading(names: Any, document: Any, settings: Settings) -> Callable[[str], Any]:
+    """What parses a part of a document."""
+
+    def read(text: str) -> Any:
+        try:
+            return loads(parsed(text, *names.of(text, document.settings.language_code), settings))
+        except Refused:
+            return None
+
+    return read
 
 
 def _report(message: Any, reporter: Any) -> None:

@@ -17,7 +17,7 @@ from . import LONGEST, Refused, Settings, collector_paused
 from ._build import build
 from ._machine import lines_of
 from ._names import Names
-from .docutils import parsed
+from .docutils import parsed, reading
 
 __all__ = ["Parser", "setup"]
 
@@ -45,7 +45,7 @@ class Parser(RSTParser):
         self.setup_parse(text, document)
         with collector_paused():
             found = loads(made)
-        build(document, lines, self.inliner, self.state_classes, found)
+        build(document, lines, self.inliner, self.state_classes, reading(_NAMES, document, _SETTINGS), found)
         self.finish_parse()
 
 
