@@ -6,19 +6,14 @@ messages are reported.
 
 from __future__ import annotations
 
-import functools
 import re
-from typing import Any, Callable, Optional
+from typing import Any, Callable
 
 from docutils import nodes, utils
 from docutils.nodes import fully_normalize_name, whitespace_normalize_name
-from docutils.parsers.rst import roles
 from docutils.statemachine import StringList
 
 from ._machine import Machine, style_of
-
-Read = Callable[[str], Optional[list[Any]]]
-"""What the library has parsed of a text; None if it refuses the text."""
 
 _CLASSES = vars(nodes)
 _new_element, _new_text, _Text, _TextElement = object.__new__, str.__new__, nodes.Text, nodes.TextElement
@@ -30,7 +25,6 @@ _LATER = frozenset({"attribution", "term", "classifier", "field_name", "line", "
 _BEGINS_WITH_NOTES = frozenset({"definition", "field_body", "legend"})
 _FIRST_OUTSIDE = frozenset({"definition_list", "field_list", "line_block"})  # the same holds for the first part of these
 _PLAIN = frozenset({"paragraph", "block_quote", "literal_block", "doctest_block", "table", "transition"})
-_OF_TITLES = frozenset({"section"})
 _PSEUDO_SECTIONS = frozenset({"topic", "sidebar"})
 _OF_DIRECTIVES = frozenset(
     "admonition attention caution compound container danger error figure hint important note sidebar tip topic warning".split()
@@ -413,38 +407,6 @@ class Builder:
         memo.section_level = len(self.open) - 1
 
 
-def build(document: Any, lines: StringList, inliner: Any, state_classes: Any, read: Read, made: list[Any]) -> None:
-    """Puts what the library has parsed into a document. Its lines are those of the text; `read` parses a text with the same names."""
-    machine = Machine(document, lines, inliner, state_classes, functools.partial(_build_inside, read, document))
-    Builder(document, machine, lines, document).fill(made)
-    machine.end()
-    roles._roles.pop("", None)  # the default role is as before
-
-
-def _build_inside(read: Read, document: Any, machine: Machine, block: StringList, offset: int, parent: Any, titles: bool) -> bool:
-    """Reads lines of a directive into a parent, if they need no machine of Docutils.
-
-    They need one if they hold titles. Where titles may not be, lines are read as those of a list item.
-    """
-    if titles:
-        lines = block
-        made = read("\n".join(block) + "\n")
-        children = made[3:] if made else None
-    else:
-        if all(row[:1] in ("", " ") for row in block):
-            return False
-        lines = StringList(["-", "", *(row and "  " + row for row in block)], items=[*block.items[:1] * 2, *block.items])
-        made = read("\n".join(lines) + "\n")
-        children = made[3][3][3:] if made and len(made) == 4 and made[3][0] == "bullet_list" and len(made[3]) == 4 else None
-    if children is None or not all(found[0] not in _OF_TITLES for found in children):
-        return False
-    builder = Builder(document, machine, lines, parent if titles else None, offset if titles else offset - 2)
-    builder.fill_inside(parent, children)
-    if block.items:
-        document.note_source(*block.items[-1])  # where Docutils' machine would be
-    return True
-
-
 _IS_LAST = "is_last"
 _SPECIAL: dict[str, Callable[[Builder, Any, list[Any], Any], None]] = {
     "citation": Builder.citation,
@@ -485,8 +447,9 @@ def _titles(inside: list[Any]) -> int:
     """How many nodes before the content of a topic or a sidebar are its titles, and messages on them."""
     tags = [child[0] for child in inside]
     count = sum(tag in ("title", "subtitle") for tag in tags)
-    notes = sum(child[2].get("text_messages", 0) for child in inside[:count])
-    return count + notes
+    for child in inside[:count]:
+        count += int(child[2].get("text_messages", 0))
+    return count
 
 
 def _legend(figure: Any) -> Any:

@@ -29,7 +29,7 @@ from docutils.readers import standalone
 from docutils.transforms import Transform, frontmatter, references, universal
 
 from . import HALTED, LEVELS, LIBRARY, Refused, Settings, Text, answer, collector_paused, messages, options_of
-from ._build import build
+from ._hand import build
 from ._machine import lines_of
 from ._names import Hand, Names
 from ._nodes import fill
@@ -60,13 +60,13 @@ class Parser(rst.Parser):
         """Puts what is read of a text into a document that is empty."""
         text: Any = inputstring  # Docutils asks for a str, and only keeps it
         self.setup_parse(text, document)
-        if not (self.names and self._build(text, document)):
+        if not (self.names and self._build(text, document, self.names)):
             self._fill(text, document)
 
-    def _build(self, text: Text, document: Any) -> bool:
+    def _build(self, text: Text, document: Any, names: Names) -> bool:
         """Puts a text into a document, and gives Docutils what is handed back. If that is nothing, nothing is done and the answer is no."""
         written = text if isinstance(text, str) else bytes(text).decode("utf-8", "replace")
-        directives, roles = self.names.of(written, document.settings.language_code) if self.names else (set(), set())
+        directives, roles = names.of(written, document.settings.language_code)
         if not directives and not roles:
             return False
         settings = _settings_of(document, self.profile)
@@ -74,7 +74,7 @@ class Parser(rst.Parser):
         if not _HANDED.search(made):
             return False
         lines = lines_of(written, settings["tab_width"], document["source"])
-        build(document, lines, self.inliner, self.state_classes, reading(self.names, document, settings), loads(made))
+        build(document, lines, self.inliner, self.state_classes, reading(names, document, settings), loads(made))
         self.finish_parse()
         return True
 
@@ -184,12 +184,13 @@ def parsed(text: Text, directives: Iterable[str], roles: Iterable[str], settings
     return run.stdout.decode()
 
 
-def reading(names: Any, document: Any, settings: Settings) -> Callable[[str], Any]:
+def reading(names: Names, document: Any, settings: Settings) -> Callable[[str], Any]:
     """What parses a part of a document."""
 
     def read(text: str) -> Any:
         try:
-            return loads(parsed(text, *names.of(text, document.settings.language_code), settings))
+            directives, roles = names.of(text, document.settings.language_code)
+            return loads(parsed(text, directives, roles, settings))
         except Refused:
             return None
 

@@ -14,7 +14,7 @@ from docutils.statemachine import StringList
 from sphinx.parsers import RSTParser
 
 from . import LONGEST, Refused, Settings, collector_paused
-from ._build import build
+from ._hand import build
 from ._machine import lines_of
 from ._names import Names
 from .docutils import parsed, reading
