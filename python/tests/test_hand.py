@@ -2,6 +2,7 @@
 """Tests what is handed back to Docutils beside its own parser; pytest runs them, and so does python3 by itself."""
 
 import collections
+import importlib.util
 import io
 import os
 import pathlib
@@ -326,6 +327,141 @@ class Printed(unittest.TestCase):
             self.assertEqual(run("--hand=extension"), (0, ""))
             self.assertEqual(run()[0], 1)
             self.assertEqual(run("--hand=nothing"), (1, "./a.rst: rst2pseudoxml: No module named 'nothing'\n"))
+
+
+PROJECT = {
+    "conf.py": "release = '7'\nrst_prolog = '.. |pro| replace:: before *all*\\n'\nrst_epilog = '.. _epi: http://x.org\\n'\n",
+    "index.rst": """Index
+=====
+
+:As of: |today|, with |release|, |pro|, epi_
+
+:doc:`one`, :ref:`here`, :py:func:`f` and :func:`f`, `textwrap`, :nope:`a`. [#]_
+
+.. toctree::
+
+   one
+   two
+
+.. _here:
+
+Part
+----
+
+.. code-block:: python
+   :caption: A :ref:`caption <here>`
+   :name: coded
+
+   x = 1
+
+::
+
+   y = 2
+
+.. py:function:: f(a, b=1)
+
+   Does :c:func:`x`. |pro| *y
+
+   :param a: `b`
+
+   .. versionadded:: 3.2
+
+      - .. note:: :func:`f`
+
+        z
+
+.. only:: html
+
+   Sub
+   ~~~
+
+   text
+
+.. figure:: a.png
+
+   Caption :ref:`here`
+
+   .. class:: x
+
+   Legend
+
+* :abbr:`LIFO (last)` :math:`a` :kbd:`C-x` :code:`c`
+
+.. [#] A :pep:`8`
+
+.. nope:: a
+
+.. math:: a
+
+""",
+    "one.rst": """.. index:: a
+
+One
+===
+
+.. currentmodule:: os
+
+.. function:: path(x)
+              path(y)
+
+   :mod:`os`: *x* :nope:`y`
+
+   Title
+   -----
+
+   .. rst:directive:: z
+
+.. glossary::
+
+   term `b`
+     def
+
+Sub :ref:`here`
+---------------
+
+:term:`term b`, coded_, Copyright |copy|
+
+.. list-table::
+
+   * - a
+     - :ref:`here`
+
+.. productionlist::
+   a: b `a`
+
+.. |copy| unicode:: 0xA9
+
+.. include:: part.txt
+""",
+    "part.txt": "Sub of a part\n-------------\n\n:ref:`here` |copy| *a\n",
+    "two.rst": ":orphan:\n\n.. default-role:: math\n\n.. highlight:: none\n\nTwo `a` ::\n\n  b\n\n.. cpp:class:: C\n\n   .. cpp:function:: int f()\n\n:cpp:any:`C::f`\n",
+}
+
+
+@unittest.skipUnless(importlib.util.find_spec("sphinx"), "there is no Sphinx")
+class Sphinx(unittest.TestCase):
+    """The pages of a project are those of Sphinx' own parser."""
+
+    def built(self, folder, builder, more):
+        """The files that Sphinx writes, and what it says."""
+        for name, text in PROJECT.items():
+            (folder / name).write_text(text + (more if name == "conf.py" else ""))
+        command = [sys.executable, "-m", "sphinx", "-q", "-E", "-b", builder, folder, folder / "out"]
+        variables = {**os.environ, "PYTHONPATH": os.pathsep.join(sys.path), "SOURCE_DATE_EPOCH": "0"}
+        run = subprocess.run(command, env=variables, stdout=subprocess.PIPE, stderr=subprocess.STDOUT, text=True)
+        self.assertEqual(run.returncode, 0, run.stdout)
+        return {path.name: path.read_text() for path in (folder / "out").rglob(f"*.{builder}")}, run.stdout
+
+    def test_project(self):
+        for builder in ("pseudoxml", "html"):
+            for more in ("", "default_role = 'py:obj'\n"):
+                with self.subTest(builder, more=more), tempfile.TemporaryDirectory() as name:
+                    pages, said = self.built(pathlib.Path(name), builder, more)
+                    ours, we_said = self.built(pathlib.Path(name), builder, more + "extensions = ['rst2pseudoxml.sphinx']\n")
+                    self.assertGreater(len(pages), 2)
+                    for page, text in pages.items():
+                        self.assertEqual(ours[page], text, page)
+                    self.assertEqual(we_said, said)
 
 
 if __name__ == "__main__":

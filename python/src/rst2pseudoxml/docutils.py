@@ -31,7 +31,7 @@ from docutils.transforms import Transform, frontmatter, references, universal
 from . import HALTED, LEVELS, LIBRARY, Refused, Settings, Text, answer, collector_paused, messages, options_of
 from ._hand import build
 from ._machine import lines_of
-from ._names import Hand, Names
+from ._names import UNNAMED, Hand, Names
 from ._nodes import fill
 
 if TYPE_CHECKING:
@@ -48,6 +48,10 @@ class Parser(rst.Parser):
     Messages are reported in the order of the document, those of transforms when transforms are applied: they are written to the warning
     stream. One at or above the halt level is a `docutils.utils.SystemMessage`. A text that the library refuses is a
     `rst2pseudoxml.Refused`. Another profile than "base" and "docutils" is a ValueError.
+
+    `hand` names what is handed back to Docutils: "registered" is each directive and role that Docutils finds by its name, but for what the
+    profile has itself; a list of names adds these; "all" is all. Docutils' own transforms run then. A text is read by Docutils' own parser as
+    a whole where text in backquotes has a role of its own (`default-role`).
     """
 
     def __init__(self, rfc2822: bool = False, inliner: Any = None, profile: str = "docutils", hand: Hand = None) -> None:
@@ -59,24 +63,20 @@ class Parser(rst.Parser):
     def parse(self, inputstring: Text, document: Any) -> None:
         """Puts what is read of a text into a document that is empty."""
         text: Any = inputstring  # Docutils asks for a str, and only keeps it
-        self.setup_parse(text, document)
-        if not (self.names and self._build(text, document, self.names)):
-            self._fill(text, document)
-
-    def _build(self, text: Text, document: Any, names: Names) -> bool:
-        """Puts a text into a document, and gives Docutils what is handed back. If that is nothing, nothing is done and the answer is no."""
         written = text if isinstance(text, str) else bytes(text).decode("utf-8", "replace")
-        directives, roles = names.of(written, document.settings.language_code)
-        if not directives and not roles:
-            return False
+        directives, roles = self.names.of(written, document.settings.language_code) if self.names else (set(), set())
+        if UNNAMED in roles:
+            super().parse(written, document)
+            return
+        self.setup_parse(text, document)
         settings = _settings_of(document, self.profile)
-        made = parsed(text, directives, roles, settings)
-        if not _HANDED.search(made):
-            return False
-        lines = lines_of(written, settings["tab_width"], document["source"])
-        build(document, lines, self.inliner, self.state_classes, reading(names, document, settings), loads(made))
-        self.finish_parse()
-        return True
+        made = parsed(text, directives, roles, settings) if directives or roles else ""
+        if self.names and _HANDED.search(made):
+            lines = lines_of(written, settings["tab_width"], document["source"])
+            build(document, lines, self.inliner, self.state_classes, reading(self.names, document, settings), loads(made))
+            self.finish_parse()
+        else:
+            self._fill(text, document)
 
     def _fill(self, text: Text, document: Any) -> None:
         """Puts a text into a document as the library finishes it."""
@@ -190,7 +190,7 @@ def reading(names: Names, document: Any, settings: Settings) -> Callable[[str], 
     def read(text: str) -> Any:
         try:
             directives, roles = names.of(text, document.settings.language_code)
-            return loads(parsed(text, directives, roles, settings))
+            return None if UNNAMED in roles else loads(parsed(text, directives, roles, settings))
         except Refused:
             return None
 

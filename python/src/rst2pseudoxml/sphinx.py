@@ -2,22 +2,21 @@
 
 Directives and roles that aren't Docutils' own are handed back to Sphinx, and so are those of Docutils that Sphinx or an extension has in
 another form (`code-block`, `figure`, `math`). Docutils' and Sphinx' own transforms run. The page docs/DOCUTILS.md says what is read otherwise
-than by Docutils. A page that the library refuses is read by Sphinx' own parser.
+than by Docutils. A page that the library refuses is read by Sphinx' own parser, and so is one with a default role.
 """
 
 from __future__ import annotations
 
-from json import loads
 from typing import Any
 
 from docutils.statemachine import StringList
 from sphinx.parsers import RSTParser
 
-from . import LONGEST, Refused, Settings, collector_paused
+from . import LONGEST, Settings
 from ._hand import build
 from ._machine import lines_of
 from ._names import Names
-from .docutils import parsed, reading
+from .docutils import reading
 
 __all__ = ["Parser", "setup"]
 
@@ -36,15 +35,11 @@ class Parser(RSTParser):
             lines = lines_of(inputstring, document.settings.tab_width, document.current_source)
         self.decorate(lines)
         text = "\n".join(lines) + "\n"
-        directives, roles = _NAMES.of(text, document.settings.language_code)
-        try:
-            made = parsed(text, directives, roles, _SETTINGS)
-        except Refused:
+        found = reading(_NAMES, document, _SETTINGS)(text)
+        if found is None:
             super().parse(inputstring, document)
             return
         self.setup_parse(text, document)
-        with collector_paused():
-            found = loads(made)
         build(document, lines, self.inliner, self.state_classes, reading(_NAMES, document, _SETTINGS), found)
         self.finish_parse()
 
