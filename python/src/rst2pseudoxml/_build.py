@@ -29,6 +29,7 @@ _PSEUDO_SECTIONS = frozenset({"topic", "sidebar"})
 _OF_DIRECTIVES = frozenset(
     "admonition attention caution compound container danger error figure hint important note sidebar tip topic warning".split()
 )
+_MARK = re.compile(r" *(?:(?:[-+*\u2022\u2023\u2043]|\(?(?:\w+|#)[.)]|:[^`:]+:|\.\. \[[^]]*\]|\.\. [\w:.+-]+::) +)*")  # what stands before a paragraph
 _ALIAS = re.compile(r"<([^<>]*)_>`_\Z", re.DOTALL)
 
 
@@ -130,7 +131,9 @@ class Builder:
             node.source = node.line = None  # as it is in Docutils while a directive has it
         if isinstance(node, _TextElement):
             self.put(node, inside, holder, holder)
-            if isinstance(node, _FIXED) and len(inside) == 1 and inside[0].__class__ is str:
+            if tag == "paragraph":
+                node.rawsource = self.paragraph_source(found[1])
+            elif isinstance(node, _FIXED) and len(inside) == 1 and inside[0].__class__ is str:
                 node.rawsource = inside[0]
             self.name(node, given, node)
             _attach(parent, node)
@@ -372,6 +375,13 @@ class Builder:
             if in_section and has_more and self.open[0] is self.document:  # the lines that the directive added may have left sections open, or ended some
                 self.reopen(parent, bool(lines))
                 parent = self.open[-1]
+
+    def paragraph_source(self, line: int) -> str:
+        """The source text of a paragraph, as far as its lines tell: without what is before it in its first line, and not in tables."""
+        rows = [_MARK.sub("", self.row(line))]
+        while self.row(line + len(rows)):
+            rows.append(self.row(line + len(rows)).lstrip(" "))
+        return "\n".join(rows)
 
     def source_of(self, line: int, until_blank: bool) -> str:
         """The source text of explicit markup that begins at a line."""

@@ -55,6 +55,7 @@ class Machine:
         root.input_lines, root.input_offset, root.line_offset = lines, 0, 0
         root.runtime_init()
         self.running: Any = root
+        self.count = 0  # how many lines the machine that is running was given
         self.at, self.at_paragraph = 0, False  # the line of the block at which the machine stands, while there is no section
         reporter.get_source_and_line = self.source_and_line
 
@@ -77,14 +78,13 @@ class Machine:
 
     def source_and_line(self, line: int | None = None) -> tuple[Any, Any]:
         """The source of a line, and its number there; of the line at which the machine stands, if none is given."""
-        if line is None:
-            if self.at:
-                self.root.line_offset = self.end_of(self.at)
-            found = self.root.get_source_and_line()
-        else:
+        if line is None and self.at:
+            self.root.line_offset = self.end_of(self.at)
+        has_more = self.running is not self.root and len(self.running.input_lines) > self.count
+        if line is not None and has_more and line > self.running.input_offset:  # a directive has added lines
             found = self.running.get_source_and_line(line)
-            if found == (None, None):
-                found = self.root.get_source_and_line(line)
+        else:
+            found = self.root.get_source_and_line(line)
         source, number = found
         return source, number
 
@@ -118,10 +118,10 @@ class Machine:
         how many lines directives have added.
         """
         machine: Any = self.idle.pop() if self.idle else states.NestedStateMachine(self.state_classes, "Body", self.document.reporter.debug_flag)
-        count = len(lines)
-        outer, self.running = self.running, machine
+        outer = self.running, self.count
+        self.running, self.count = machine, len(lines)
         machine.run(lines, line - 1, self.memo, parent, in_section)
-        self.running = outer
+        count, (self.running, self.count) = self.count, outer
         place, left = machine.line_offset + 1, machine.input_lines
         self.idle.append(machine)
         return left[place:], line + place, len(left) - count
