@@ -51,3 +51,14 @@ NAMES = {
     "the same names": ".. _a:\n\nb\n\n.. class:: x\n\n.. _a:\n\n_`a` c\n\n- _`a`\n\n.. [a] d\n.. image:: e\n   :name: a\n",
 }
 """What directives and roles share with the text around them."""
+
+QUOTES = """.. class:: x
+
+"a" 'b' *c*\\'s :sub:`d`\\ 's \\"e\\" ``f\\'``\\'s f\\\\'s "g\\
+h" i\\*'s
+
+- "j" \\'k\\' `l`\\'s -- m\\--n
+
+  *o*\\ 's
+"""
+"""Quotation marks behind backslashes."""

@@ -180,6 +180,9 @@ class Examples(unittest.TestCase):
                 with self.subTest(name, **given):
                     self.same(ALL[name], **given)
 
+    def test_quotation_marks(self):
+        self.same(hand_cases.QUOTES, smart_quotes=True)
+
     def test_files(self):
         with tempfile.TemporaryDirectory() as name:
             folder = pathlib.Path(name)

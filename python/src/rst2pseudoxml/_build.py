@@ -13,6 +13,7 @@ from docutils import nodes, utils
 from docutils.nodes import fully_normalize_name, whitespace_normalize_name
 from docutils.statemachine import StringList
 
+from ._escapes import mark_escapes
 from ._machine import Machine, style_of
 
 _CLASSES = vars(nodes)
@@ -29,7 +30,7 @@ _PSEUDO_SECTIONS = frozenset({"topic", "sidebar"})
 _OF_DIRECTIVES = frozenset(
     "admonition attention caution compound container danger error figure hint important note sidebar tip topic warning".split()
 )
-_MARK = re.compile(r" *(?:(?:[-+*\u2022\u2023\u2043]|\(?(?:\w+|#)[.)]|:[^`:]+:|\.\. \[[^]]*\]|\.\. [\w:.+-]+::) +)*")  # what stands before a paragraph
+_MARK = re.compile(r"\A *(?:(?:[-+*\u2022\u2023\u2043]|\(?(?:\d+|[a-zA-Z]|[ivxlcdm]+|[IVXLCDM]+|#)[.)]|:[^`:]+:|\.\. \[[^]]*\]|\.\. [\w:.+-]+::) +)*")  # what stands before a paragraph
 _ALIAS = re.compile(r"<([^<>]*)_>`_\Z", re.DOTALL)
 
 
@@ -47,6 +48,7 @@ class Builder:
         self.read: dict[Any, list[Any]] = {}  # messages as they were read, by their numbers
         self.notes: list[Any] = []  # messages on the text that is read
         self.has_others = False  # whether some of these are by a role that is handed back
+        self.has_quotes = bool(getattr(document.settings, "smart_quotes", False))
         self.trim = utils.get_trim_footnote_ref_space(document.settings)
 
     def fill(self, root: list[Any]) -> None:
@@ -133,6 +135,8 @@ class Builder:
             self.put(node, inside, holder, holder)
             if tag == "paragraph":
                 node.rawsource = self.paragraph_source(found[1])
+                if self.has_quotes and "\\" in node.rawsource:
+                    mark_escapes(node, node.rawsource)
             elif isinstance(node, _FIXED) and len(inside) == 1 and inside[0].__class__ is str:
                 node.rawsource = inside[0]
             self.name(node, given, node)
@@ -378,7 +382,7 @@ class Builder:
 
     def paragraph_source(self, line: int) -> str:
         """The source text of a paragraph, as far as its lines tell: without what is before it in its first line, and not in tables."""
-        rows = [_MARK.sub("", self.row(line))]
+        rows = [_MARK.sub("", self.row(line), 1)]
         while self.row(line + len(rows)):
             rows.append(self.row(line + len(rows)).lstrip(" "))
         return "\n".join(rows)
