@@ -7,6 +7,7 @@ from typing import Any
 
 from docutils import nodes, utils
 
+_AS_WRITTEN = (nodes.literal, nodes.math, nodes.raw, nodes.problematic)  # in these a backslash is itself
 _DROPPED = r"(?:\\\s)*"  # escaped white characters aren't in the text
 
 
@@ -17,8 +18,9 @@ def mark_escapes(element: Any, source: str) -> None:
         if "\0" in text:
             continue
         pattern = "".join(rf"{_DROPPED}\\?{re.escape(character)}" for character in text)
-        found = re.compile(pattern + _DROPPED).search(source, place)
+        as_written = isinstance(text.parent, _AS_WRITTEN)
+        found = re.compile(pattern + ("" if as_written else _DROPPED)).search(source, place)
         if found:
             place = found.end()
-            if "\\" in found[0] and not isinstance(text.parent, nodes.literal):
+            if "\\" in found[0] and not as_written:
                 text.parent.replace(text, nodes.Text(utils.escape2null(found[0])))
