@@ -1,5 +1,5 @@
 -- What a text must hold for a part of the wider profile to make a difference in it. Texts are in bytes.
-use Rattle.std.specs.Prelude.{ℕ, Bool, ◌&&◌, ◌||◌, ◌==◌, ◌-◌, List, [], None, drop, if◌then◌else◌, length, not, slice_index, take}
+use Rattle.std.specs.Prelude.{ℕ, Bool, ◌&&◌, ◌||◌, ◌==◌, ◌-◌, List, [], None, drop, false, if◌then◌else◌, length, not, slice_index, take}
 use Rattle.std.specs.Char.{is_ascii_whitespace}
 use Rattle.std.specs.List.{after_last, list_any, slice_split, suffix_len, zip}
 use Rattle.std.specs.Option.{option_map_or}

@@ -1,5 +1,5 @@
 //! The parts of the wider profile that hold in a text.
-ghost use Rattle.std.specs.Prelude.{◌≡◌, ◌-◌, ◌<◌, ◌≤◌, encode_utf8_all, length, not, slice_index, true};
+ghost use Rattle.std.specs.Prelude.{◌≡◌, ◌-◌, ◌<◌, ◌≤◌, None, encode_utf8_all, if◌then◌else◌, length, not, slice_index, true};
 ghost use Rattle.std.specs.Char.{is_ascii_whitespace};
 ghost use Rattle.std.specs.List.{suffix_len};
 ghost use Rattle.std.specs.Str.{chars};
@@ -22,11 +22,18 @@ pub fn parts_in(asked: Parts, text: &str) -> Parts
         directives: asked.directives && holds_wider_directive(text),
         unmarked: asked.unmarked,
         keywords: asked.keywords && holds_dollar_sign(text),
-        handed: if holds_handed(asked, text) {
-            asked.handed
-        } else {
-            None
-        },
+        handed: handed_in(asked, text),
+    }
+}
+
+/// The names that are handed back, if one of them may stand in a text.
+fn handed_in(asked: Parts, text: &str) -> Option<&'static str>
+    ensures { result ≡ (if spec.holds_handed asked text.now then asked.handed else None) }
+{
+    if holds_handed(asked, text) {
+        asked.handed
+    } else {
+        None
     }
 }
 
