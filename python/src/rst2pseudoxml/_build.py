@@ -373,7 +373,7 @@ class Builder:
         line += self.offset
         has_more = False
         while lines:
-            lines, line, count = self.machine.run(lines, line, parent, in_section)
+            lines, line, count = self.machine.run(lines, line, parent, in_section, has_more)
             self.added += count
             has_more = has_more or count > 0
             if in_section and has_more and self.open[0] is self.document:  # the lines that the directive added may have left sections open, or ended some
