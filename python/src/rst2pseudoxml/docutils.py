@@ -178,9 +178,8 @@ def _settings_of(document: Any, profile: str) -> Any:
 def parsed(text: Text, directives: Iterable[str], roles: Iterable[str], settings: Settings) -> str:
     """The document as the library parses it, before the transforms, as JSON; names in these sets are handed back."""
     names = [" ".join(sorted(names)) for names in (directives, roles)]
-    run = subprocess.run(
-        [os.environ["RST_PARSE_PROGRAM"], *names], input=text.encode() if isinstance(text, str) else bytes(text), stdout=subprocess.PIPE, check=True
-    )
+    data = text.encode() if isinstance(text, str) else bytes(text)
+    run = subprocess.run([os.environ["RST_PARSE_PROGRAM"], *names], input=data, stdout=subprocess.PIPE, check=True)
     return run.stdout.decode()
 
 
