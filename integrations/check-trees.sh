@@ -8,7 +8,8 @@
 # missing, or can't be made, 2 if nothing was compared. A page is read by standard input, so its source is `<stdin>` on every
 # machine. With --hand=MODULE the directives and roles of an extension of Docutils stand in the trees as it makes them: Python 3.9 or later
 # with Docutils reads the pages by the wider profile, and imports MODULE, which registers them, from the current folder or where Python looks
-# for modules. Else they are unknown. The program is that of the checkout that this script is in; a copy of the script runs the `rst2pseudoxml` on the PATH.
+# for modules. Else they are unknown. The program is that of the checkout that this script is in; a copy of the script runs the
+# `rst2pseudoxml` on the PATH.
 set -u
 
 refuse() { # LINE

@@ -30,7 +30,10 @@ _PSEUDO_SECTIONS = frozenset({"topic", "sidebar"})
 _OF_DIRECTIVES = frozenset(
     "admonition attention caution compound container danger error figure hint important note sidebar tip topic warning".split()
 )
-_MARK = re.compile(r"\A *(?:(?:[-+*\u2022\u2023\u2043]|\(?(?:\d+|[a-zA-Z]|[ivxlcdm]+|[IVXLCDM]+|#)[.)]|:[^`:]+:|\.\. \[[^]]*\]|\.\. [\w:.+-]+::) +)*")  # what stands before a paragraph
+_MARK = re.compile(  # what stands before a paragraph in its line
+    r"\A *(?:(?:[-+*\u2022\u2023\u2043]|\(?(?:\d+|[a-zA-Z]|[ivxlcdm]+|[IVXLCDM]+|#)[.)]|:[^`:]+:"
+    r"|\.\. \[[^]]*\]|\.\. [\w:.+-]+::) +)*"
+)
 _ALIAS = re.compile(r"<([^<>]*)_>`_\Z", re.DOTALL)
 
 
@@ -373,10 +376,10 @@ class Builder:
         line += self.offset
         has_more = False
         while lines:
-            lines, line, count = self.machine.run(lines, line, parent, in_section)
+            lines, line, count = self.machine.run(lines, line, parent, in_section, has_more)
             self.added += count
             has_more = has_more or count > 0
-            if in_section and has_more and self.open[0] is self.document:  # the lines that the directive added may have left sections open, or ended some
+            if in_section and has_more and self.open[0] is self.document:  # the lines may have left sections open, or ended some
                 self.reopen(parent, bool(lines))
                 parent = self.open[-1]
 

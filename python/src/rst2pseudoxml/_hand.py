@@ -43,5 +43,5 @@ def _build_inside(read: Read, document: Any, machine: Machine, block: StringList
     builder = Builder(document, machine, lines, parent if titles else None, offset if titles else offset - 2)
     builder.fill_inside(parent, children)
     if block.items:
-        document.note_source(*block.items[-1])  # where Docutils' machine would be
+        document.note_source(block.items[-1][0], None)  # where Docutils' machine would be: past the end
     return True

@@ -74,6 +74,10 @@ class Machine:
                     return input_offset + len(block)
                 return super().nested_parse(block, input_offset, node, match_titles, *given, **named)
 
+            def explicit_list(state, blank_finish: Any) -> None:
+                if not state.state_machine.at_eof():  # else there is nothing that could belong to the list
+                    super().explicit_list(blank_finish)
+
         return Body
 
     def source_and_line(self, line: int | None = None) -> tuple[Any, Any]:
@@ -111,17 +115,18 @@ class Machine:
             end += 1
         return end - (end > line)
 
-    def run(self, lines: StringList, line: int, parent: Any, in_section: bool) -> tuple[StringList, int, int]:
-        """Reads lines, the first of which is `line`, into a parent.
+    def run(self, lines: StringList, line: int, parent: Any, in_section: bool, has_more: bool) -> tuple[StringList, int, int]:
+        """Reads lines, the first of which is `line`, into a parent; whether they are others than those of the text.
 
         Gives the lines that are left, since a title of them begins a section outside of the parent; the number of the first of these; and
         how many lines directives have added.
         """
         machine: Any = self.idle.pop() if self.idle else states.NestedStateMachine(self.state_classes, "Body", self.document.reporter.debug_flag)
         outer = self.running, self.count
-        self.running, self.count = machine, len(lines)
+        count = len(lines)
+        self.running, self.count = machine, 0 if has_more else count
         machine.run(lines, line - 1, self.memo, parent, in_section)
-        count, (self.running, self.count) = self.count, outer
+        self.running, self.count = outer
         place, left = machine.line_offset + 1, machine.input_lines
         self.idle.append(machine)
         return left[place:], line + place, len(left) - count

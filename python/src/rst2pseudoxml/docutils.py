@@ -5,6 +5,8 @@ substitutions, resolves references, and puts the title and the bibliographic fie
 all others are. A document has all messages, INFO too: a writer leaves out those below the report level. Messages that transforms don't place
 are in `transform_messages`, and a writer makes their section.
 
+With `hand` directives and roles are handed back to Docutils. Where a text has some, the library only parses it: Docutils' own transforms run.
+
 These settings count: `report_level`, `halt_level`, `doctitle_xform`, `docinfo_xform`, `tab_width`, `line_length_limit`,
 `trim_footnote_reference_space`, and what other transforms and writers read. Others of the reStructuredText parser (such as
 `syntax_highlight`) change nothing. The profile is "docutils" if no other is given: what docs/profile/wider.md of this project adds to markup is

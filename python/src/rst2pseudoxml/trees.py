@@ -1,4 +1,4 @@
-"""Prints the tree of standard input with all messages. What a module registers with Docutils is handed back to it; the argument names the module."""
+"""Prints the tree of standard input with all messages. The argument names a module: what it registers with Docutils is handed back."""
 
 from __future__ import annotations
 
