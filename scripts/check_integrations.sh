@@ -84,9 +84,9 @@ trees/good.rst: there is no trees/good.tree; --update writes it' "$(answer "$che
     "$(answer "$check" --update trees)"
   same 'a refused page' '1 trees/deep.rst: rst2pseudoxml: line 3: nesting too deep' "$(answer "$check" trees)"
   same 'the files' 'a b.rst a b.tree deep.rst good.rst good.tree' "$(cd trees && echo *)"
-  shows 'help on trees' 0 '    check-trees.sh [--update] [--] FOLDER' "$check" --help
+  shows 'help on trees' 0 '    check-trees.sh [--update] [--hand=MODULE] [--] FOLDER' "$check" --help
   same 'no page' '2 check-trees.sh: there is no .rst file in a folder' "$(answer "$check" 'a folder')"
-  same 'no folder' '2 check-trees.sh: usage: check-trees.sh [--update] [--] FOLDER' "$(answer "$check" --update)"
+  same 'no folder' '2 check-trees.sh: usage: check-trees.sh [--update] [--hand=MODULE] [--] FOLDER' "$(answer "$check" --update)"
 }
 
 check_copies() { # they run the program on the PATH, where those of the checkout run that of the checkout

@@ -123,7 +123,8 @@ def _loaded() -> CDLL:
     text, room, end = [c_char_p, c_size_t], [c_void_p, c_size_t], [POINTER(_Result)]
     library.rst_print.argtypes = [*text, *text, POINTER(_Options), *room, *room, *end]
     library.rst_json.argtypes = library.rst_messages.argtypes = [*text, POINTER(_Options), *room, *end]
-    library.rst_print.restype = library.rst_json.restype = library.rst_messages.restype = None
+    library.rst_parse.argtypes = [*text, *text, POINTER(_Options), *room, *end]
+    library.rst_print.restype = library.rst_parse.restype = library.rst_json.restype = library.rst_messages.restype = None
     return library
 
 

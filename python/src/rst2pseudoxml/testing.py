@@ -12,9 +12,14 @@ from . import Settings, Text, pseudoxml
 if TYPE_CHECKING:
     from typing_extensions import Unpack
 
+    from ._names import Hand
 
-def assert_tree(text: Text, expected: str, **settings: Unpack[Settings]) -> None:
+
+def assert_tree(text: Text, expected: str, *, hand: Hand = None, **settings: Unpack[Settings]) -> None:
     """Fails with the differences unless the tree of a text is `expected`. No message halts the run, if `halt` isn't given.
+
+    With `hand` directives and roles are handed back to Docutils, which has to be installed: "registered" are those that are registered with
+    it and that the profile doesn't have itself (see `rst2pseudoxml.docutils.Parser`). The profile is "docutils" then, if none is given.
 
     `expected` may be indented: what its first line is indented by is taken off each line. A line feed before the first line,
     and spaces after the last line feed, don't count.
@@ -25,9 +30,17 @@ def assert_tree(text: Text, expected: str, **settings: Unpack[Settings]) -> None
     wanted = [line.removeprefix(" " * margin) for line in wanted]
     wanted[-1] = wanted[-1].rstrip(" ")
     settings.setdefault("halt", "none")
-    got = pseudoxml(text, **settings).split("\n")
+    got = _printed(text, hand, settings).split("\n")
     if got != wanted:
         raise AssertionError("the tree differs\n" + "\n".join(differences(wanted, got)))
+
+
+def _printed(text: Text, hand: Hand, settings: Settings) -> str:
+    if hand is None:
+        return pseudoxml(text, **settings)
+    from .docutils import pseudoxml as printed
+
+    return printed(text, hand=hand, **settings)
 
 
 def differences(wanted: list[str], got: list[str]) -> Iterator[str]:
