@@ -1,5 +1,5 @@
 //! The options of a call.
-ghost use Rattle.std.specs.Prelude.{◌≡◌, ◌≤◌, None};
+ghost use Rattle.std.specs.Prelude.{◌≡◌, ◌≤◌, None, option_map};
 ghost use Rattle.rst_settings.specs.Threshold.{threshold_number};
 ghost use Rattle.rst_c.specs.Options.{is_within, are_in_range, parts_of_profile, SetsHandingIf, SetsIf};
 
@@ -36,9 +36,28 @@ impl RstOptions {
     pub fn settings(&self) -> Option<Settings>
         ensures { SetsIf self.now None result }
     {
+        self.settings_with(None)
+    }
+
+    /// The settings that the options choose, with names that are handed back, if each is in its range and the names are UTF-8. Nothing of the
+    /// names outlives a call: they are `'static` since settings are copied into all that is made of lines.
+    pub fn settings_handing(&self, names: &'static [u8]) -> Option<Settings>
+        ensures { SetsHandingIf self.now names.now result }
+    {
+        let Ok(names) = str::from_utf8(names) else {
+            return None;
+        };
+        self.settings_with(Some(names))
+    }
+
+    /// The settings that the options choose, with the names that are handed back, if each is in its range.
+    fn settings_with(&self, handed: Option<&'static str>) -> Option<Settings>
+        ensures { SetsIf self.now (option_map (λ names. names.now) handed.entry) result }
+    {
         if !self.are_in_range() {
             return None;
         }
+        let parts = parts_of_profile(self.profile);
         Some(Settings {
             report: threshold_of(self.report),
             halt: threshold_of(self.halt),
@@ -47,21 +66,8 @@ impl RstOptions {
             info: self.no_doc_info == 0,
             tab: self.tab_width,
             limit: self.line_length_limit as usize,
-            parts: parts_of_profile(self.profile),
+            parts: Parts { handed, ..parts },
         })
-    }
-
-    /// The settings that the options choose, with names that are handed back, if each is in its range and the names are UTF-8. Nothing of the
-    /// names outlives a call: they are `'static` since settings are copied into all that is made of lines.
-    pub fn settings_handing(&self, names: &'static [u8]) -> Option<Settings>
-        ensures { SetsHandingIf self.now names.now result }
-    {
-        let mut settings = self.settings()?;
-        let Ok(names) = str::from_utf8(names) else {
-            return None;
-        };
-        settings.parts.handed = Some(names);
-        Some(settings)
     }
 
     /// Whether each option is in its range.
