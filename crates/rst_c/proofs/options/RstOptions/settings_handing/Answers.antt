@@ -8,6 +8,7 @@ returns-in_default c = (λ is. absurd (c.in_default.ensures.cases.0 (IsUtf8-from
 
 pub returns : goal.returns
 returns c =
-    let cases = c.in-Ok.ensures.cases in
-    (λ _. subst (λ names. SetsIf c.args.self.now (Some names) c.settings_with.result) cases.0 c.settings_with.ensures,
-    λ is. let utf8 = is_utf8-from_IsUtf8 c.args.names.now cases.1 in absurd (cc))
+    let cases = c.in-Ok.ensures.cases in (
+      λ _. subst (λ names. SetsIf c.args.self.now (Some names) c.settings_with.result) cases.0 c.settings_with.ensures,
+      λ is. let utf8 = is_utf8-from_IsUtf8 c.args.names.now cases.1 in absurd (cc),
+    )
