@@ -52,11 +52,11 @@ class Names:
     def of(self, text: str, language_code: str) -> tuple[set[str], set[str]]:
         """The names of directives and of roles that are used in a text, as far as they are handed back. A name may be more than is used."""
         language = languages.get_language(language_code, _Silent())
-        used = {name.lower() for name in _DIRECTIVE.findall(text)}
+        used = {name.lower() for name in _DIRECTIVE.findall(text)} if "::" in text else set()
         of_directives = {name for name in used if self._is_handed(name, 0, language)}
         if "raw" in used and _FILE.search(text):
             of_directives.add("raw")
-        used = {(before or behind).lower() for before, behind in _ROLE.findall(text)}
+        used = {(before or after).lower() for before, after in _ROLE.findall(text)} if ":`" in text or "`:" in text else set()
         made = {name.lower() for name in _MADE.findall(text)} if "role" in of_directives else set()
         more = "include" in of_directives  # it may bring definitions of roles
         of_roles = {name for name in used if name in made or self._is_handed(name, 1, language, more)}
