@@ -168,10 +168,10 @@ impl Lines {
     }
 
     /// The parts of the wider profile that hold in each line.
-    pub(crate) fn parts(&self) -> Parts
-        ensures { (k : ℕ) → k < length self.now → result ≡ first_parts (drop k self.now) }
+    pub(crate) fn parts(&self) -> &Parts
+        ensures { (k : ℕ) → k < length self.now → result.now ≡ first_parts (drop k self.now) }
     {
-        self.parts
+        &self.parts
     }
 
     /// The place after some empty lines from place `i` on, `to` at most.

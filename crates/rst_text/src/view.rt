@@ -136,10 +136,10 @@ impl<'a> View<'a> {
     }
 
     /// The parts of the wider profile that hold in the line at place `i`, counted from 0.
-    pub fn parts(&self, i: usize) -> Parts
+    pub fn parts(&self, i: usize) -> &'a Parts
         requires { i < length (block_of self.now) }
-        ensures value { result ≡ first_parts (drop i (block_of self.now)) }
-        ensures as_first { result ≡ first_parts (block_of self.now) }
+        ensures value { result.now ≡ first_parts (drop i (block_of self.now)) }
+        ensures as_first { result.now ≡ first_parts (block_of self.now) }
     {
         self.lines.parts()
     }
