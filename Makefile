@@ -57,10 +57,11 @@ install:
 		$(named) completion/rst2pseudoxml.bash >"$(bash)/$$name" && $(named) completion/rst2pseudoxml.fish >"$(fish)/$$name.fish" || exit; \
 	done
 	for file in $(scripts) $(files); do $(named) "integrations/$$file" >"$(DESTDIR)$(own)/$$file" || exit; done
-	(cd python/src && find rst2pseudoxml ! -name '*.pyc' ! -type d) | while read -r file; do \
+	(cd python/src && find rst2pseudoxml ! -name '*.pyc' ! -name '*.c' ! -type d) | while read -r file; do \
 		mkdir -p "$(DESTDIR)$(own)/python/$$(dirname "$$file")" && cp "python/src/$$file" "$(DESTDIR)$(own)/python/$$file" || exit; \
 	done
 	cp dist/librst2pseudoxml.so "$(DESTDIR)$(own)/python/rst2pseudoxml"
+	[ ! -e dist/_records.abi3.so ] || cp dist/_records.abi3.so "$(DESTDIR)$(own)/python/rst2pseudoxml"
 	cd "$(bin)" && for name in $(commands); do \
 		printf '%s\n' '#!/usr/bin/env python3' 'import sys' 'sys.path[0] = "$(own)/python"' "from rst2pseudoxml.$$name import main" 'sys.exit(main())' >"rst-$$name" && \
 		chmod 755 "rst-$$name" || exit; \

@@ -1,7 +1,8 @@
 """Builds the package with the standard library alone: the hooks that pip calls, and `python3 backend.py FOLDER`, which makes the wheel.
 
-The same sources and library give the same bytes on every machine: times are fixed, names are sorted, and the wheel isn't compressed, since
-versions of zlib differ.
+The same sources, library and module in C give the same bytes on every machine: times are fixed, names are sorted, and the wheel isn't
+compressed, since versions of zlib differ. The module in C (scripts/extension.sh) is left out where it wasn't built, and by a Python that can't
+load it.
 """
 
 from __future__ import annotations
@@ -9,6 +10,7 @@ from __future__ import annotations
 import gzip
 import io
 import sys
+import sysconfig
 import tarfile
 import zipfile
 from base64 import urlsafe_b64encode
@@ -18,11 +20,13 @@ from pathlib import Path
 HERE = Path(__file__).resolve().parent
 SOURCES = HERE / "src"
 PACKAGE = SOURCES / "rst2pseudoxml"
-KINDS = {".py", ".typed", ".txt", ".html", ".css", ".js"}
+KINDS = {".py", ".pyi", ".typed", ".txt", ".html", ".css", ".js"}
 METADATA = (HERE / "METADATA").read_text("utf-8")
 NAME, VERSION = (METADATA.split(f"\n{field}: ")[1].partition("\n")[0] for field in ("Name", "Version"))
 INFO = f"{NAME}-{VERSION}.dist-info"
-TAG = "py3-none-manylinux2014_x86_64"  # glibc 2.17
+LIBRARY, MODULE = "librst2pseudoxml.so", "_records.abi3.so"
+SYSTEM = "manylinux2014_x86_64"  # glibc 2.17
+LOADS_MODULE = sys.implementation.name == "cpython" and not sysconfig.get_config_var("Py_GIL_DISABLED")
 COMMANDS = """\
 [console_scripts]
 rst-check = rst2pseudoxml.check:main
@@ -32,12 +36,13 @@ rst-view = rst2pseudoxml.view:main
 
 
 def package() -> dict[str, bytes]:
-    """The files of the package by their names, with the library."""
+    """The files of the package by their names, with the library and the module in C."""
     files = {path.relative_to(SOURCES).as_posix(): path.read_bytes() for path in PACKAGE.rglob("*") if path.suffix in KINDS}
-    library = PACKAGE / "librst2pseudoxml.so"  # an archive of the sources has it here, a checkout in dist/
-    if not library.exists():
-        library = HERE.parent / "dist" / library.name
-    return {**files, f"{NAME}/{library.name}": library.read_bytes()}
+    built = PACKAGE if (PACKAGE / LIBRARY).exists() else HERE.parent / "dist"  # those in an archive of the sources, or in a checkout
+    files[f"{NAME}/{LIBRARY}"] = (built / LIBRARY).read_bytes()
+    if LOADS_MODULE and (built / MODULE).exists():
+        files[f"{NAME}/{MODULE}"] = (built / MODULE).read_bytes()
+    return files
 
 
 def metadata() -> bytes:
@@ -46,12 +51,13 @@ def metadata() -> bytes:
 
 def wheel(folder: str, files: dict[str, bytes]) -> str:
     """Writes a wheel with these files; its name."""
-    about = f"Wheel-Version: 1.0\nGenerator: {NAME}\nRoot-Is-Purelib: false\nTag: {TAG}\n"
+    tag = f"cp39-abi3-{SYSTEM}" if f"{NAME}/{MODULE}" in files else f"py3-none-{SYSTEM}"
+    about = f"Wheel-Version: 1.0\nGenerator: {NAME}\nRoot-Is-Purelib: false\nTag: {tag}\n"
     entries = dict(sorted(files.items()))
     entries.update({f"{INFO}/METADATA": metadata(), f"{INFO}/WHEEL": about.encode(), f"{INFO}/entry_points.txt": COMMANDS.encode()})
     record = [f"{name},sha256={digest(data)},{len(data)}\n" for name, data in entries.items()]
     entries[f"{INFO}/RECORD"] = "".join([*record, f"{INFO}/RECORD,,\n"]).encode()
-    name = f"{NAME}-{VERSION}-{TAG}.whl"
+    name = f"{NAME}-{VERSION}-{tag}.whl"
     with zipfile.ZipFile(Path(folder, name), "w") as archive:
         for path, data in entries.items():
             entry = zipfile.ZipInfo(path)  # of 1980, not compressed

@@ -38,7 +38,8 @@ else
   echo "skipped: the library for C, as dist/ has none of these sources"
 fi
 integrations=$(cd "$top/integrations" && printf './opt/rst/share/rst2pseudoxml/%s\n' check-*.sh flycheck* *.json)
-package=$(cd "$top/python/src" && printf './opt/rst/share/rst2pseudoxml/python/%s\n' rst2pseudoxml/librst2pseudoxml.so $(find rst2pseudoxml -type f ! -name '*.pyc'))
+package=$(cd "$top/python/src" && printf './opt/rst/share/rst2pseudoxml/python/%s\n' rst2pseudoxml/librst2pseudoxml.so $(find rst2pseudoxml -type f ! -name '*.pyc' ! -name '*.c'))
+[ ! -e "$top/dist/_records.abi3.so" ] || package+=$'\n./opt/rst/share/rst2pseudoxml/python/rst2pseudoxml/_records.abi3.so'
 all() { printf '%s\n' "$(names "$1")" "$pages" "$integrations" "$package" ${library:+"$library"} | LC_ALL=C sort; }
 hello=$'<document source="<stdin>">\n    <paragraph>\n        Hello'
 

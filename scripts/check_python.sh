@@ -1,7 +1,7 @@
 #!/usr/bin/env bash
 # Installs the Python package into folders of its own, from a wheel, an archive and the sources, runs its tests there, and the lines of Python in
-# README.md. The status is 0 if they passed, 1 if one failed, 77 if there is no Python that can do it. It leaves nothing in the checkout, and
-# needs no network.
+# README.md. Its module in C is built for this, and the tests of documents run once more without it. The status is 0 if they passed, 1 if one
+# failed, 77 if there is no Python that can do it. It leaves nothing in the checkout, and needs no network.
 set -u
 top=$(cd -- "$(dirname -- "$0")/.." && pwd)
 folder=$(mktemp -d) && trap 'rm -rf -- "$folder"' EXIT && cd -- "$folder" || exit 1
@@ -23,6 +23,12 @@ fi
 install() { # TARGET SOURCE
   "$python" -m pip install --quiet --no-index --no-compile --target "$1" "$2"
 }
+PYTHON=$python "$top/scripts/extension.sh" "$folder/copy/dist" >built
+case $? in
+  0) module=_records.abi3.so ;;
+  77) module='' ;;
+  *) exit 1 ;;
+esac
 mkdir -p copy/dist && cp -r -- "$top/python" copy && cp -- "$top/dist/librst2pseudoxml.so" copy/dist &&
   wheel=$("$python" copy/python/backend.py .) && install installed "$wheel" &&
   archive=$(cd copy/python && "$python" -c 'import backend; print(backend.build_sdist("../.."))') && install archived "$archive" &&
@@ -36,10 +42,17 @@ editable=$(cd copy/python && "$python" -c 'import backend; print(backend.build_e
 export PYTHONPATH=$folder/installed
 [ "$(echo 'A *word' >a.rst && installed/bin/rst-check a.rst)" = 'a.rst:1: (WARNING/2) Inline emphasis start-string without end-string.' ] || failed=1
 if command -v objdump >/dev/null; then # what the name of the wheel says
-  needed=$(objdump -T "$top/dist/librst2pseudoxml.so" | grep -o 'GLIBC_[0-9.]*' | sed 's/.*_//' | { cat; echo 2.17; } | sort -uV | tail -n 1)
+  needed=$(objdump -T "$top/dist/librst2pseudoxml.so" ${module:+"copy/dist/$module"} | grep -o 'GLIBC_[0-9.]*' | sed 's/.*_//' | { cat; echo 2.17; } | sort -uV | tail -n 1)
   [ "$needed" = 2.17 ] || { echo "the library needs glibc $needed" && failed=1; }
 fi
 # shellcheck disable=SC2016
 sed -n '/^```python$/,/^```$/{/^```/d;p;}' "$top/README.md" | "$python" - >said || failed=1
 "$python" -m unittest discover -s "$top/python/tests" || failed=1
+if [ -n "$module" ]; then
+  "$python" -c 'import rst2pseudoxml._records' && [ "${wheel#*-cp39-abi3-}" != "$wheel" ] || failed=1
+  cp -r installed without && rm "without/rst2pseudoxml/$module" || exit 1
+  for name in docutils hand nodes; do
+    PYTHONPATH=$folder/without "$python" "$top/python/tests/test_$name.py" || failed=1
+  done
+fi
 exit $failed

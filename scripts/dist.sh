@@ -16,7 +16,7 @@ for name in rst2pseudoxml rst-tree; do
 done
 scripts/library.sh dist
 (cd dist && sha256sum rst2pseudoxml* rst-tree* librst2pseudoxml* | grep -v sha256 >rst2pseudoxml.sha256)
-scripts/wheel.sh
+extension=$(grep '^extension ' dist/BUILT) || true
 {
   for name in rst2pseudoxml rst-tree library; do
     echo "$name $(scripts/digest.sh "$name")"
@@ -24,4 +24,6 @@ scripts/wheel.sh
   echo "kit $(rt version)"
   echo "system x86-64 Linux with glibc 2.34 or later, on a processor of x86-64-v2 (with SSE4.2)"
   [ -z "$library" ] || echo "static $library"
+  [ -z "$extension" ] || echo "$extension"
 } >dist/BUILT
+scripts/wheel.sh

@@ -115,16 +115,20 @@ class _Result(Structure):
 
 
 def _loaded() -> CDLL:
-    """The library that is installed beside this file; in a checkout, that of dist/."""
+    """The library that is installed beside this file; in a checkout, that of dist/, where modules in C are looked for too."""
     path = Path(__file__).with_name("librst2pseudoxml.so")
-    library = CDLL(str(path if path.exists() else path.parents[3] / "dist" / path.name))
+    if not path.exists():
+        path = path.parents[3] / "dist" / path.name
+        __path__.append(str(path.parent))
+    library = CDLL(str(path))
     if library.rst_abi_version() != 1:
         raise ImportError("librst2pseudoxml.so is of another version")
     text, room, end = [c_char_p, c_size_t], [c_void_p, c_size_t], [POINTER(_Result)]
     library.rst_print.argtypes = [*text, *text, POINTER(_Options), *room, *room, *end]
-    library.rst_json.argtypes = library.rst_messages.argtypes = [*text, POINTER(_Options), *room, *end]
+    library.rst_json.argtypes = library.rst_records.argtypes = library.rst_messages.argtypes = [*text, POINTER(_Options), *room, *end]
     library.rst_parse.argtypes = [*text, *text, POINTER(_Options), *room, *end]
-    library.rst_print.restype = library.rst_parse.restype = library.rst_json.restype = library.rst_messages.restype = None
+    for entry in (library.rst_print, library.rst_parse, library.rst_json, library.rst_records, library.rst_messages):
+        entry.restype = None
     return library
 
 
@@ -208,7 +212,13 @@ def _name(source: str) -> str:
 
 
 def answer(entry: Any, text: Text, settings: Settings, before: tuple[Any, ...] = (), after: tuple[Any, ...] = ()) -> tuple[str, int]:
-    """What an entry of the library makes of a text, and the program's exit status."""
+    """The text that an entry of the library makes of a text, and the program's exit status."""
+    made, status = called(entry, text, settings, before, after)
+    return str(made, "utf-8"), status
+
+
+def called(entry: Any, text: Text, settings: Settings, before: tuple[Any, ...] = (), after: tuple[Any, ...] = ()) -> tuple[memoryview, int]:
+    """What an entry of the library makes of a text, as bytes, and the program's exit status."""
     data = _bytes(text)
     options = options_of(settings)
     result = _Result()
@@ -220,7 +230,7 @@ def answer(entry: Any, text: Text, settings: Settings, before: tuple[Any, ...] =
             kind, line = _REFUSED[result.end]
             raise Refused(kind, result.at if "{}" in line else None, "rst2pseudoxml: " + line.format(result.at))
         if result.length <= size:
-            return str(memoryview(room)[: result.length], "utf-8"), result.status
+            return memoryview(room)[: result.length], result.status
         size = result.length
 
 

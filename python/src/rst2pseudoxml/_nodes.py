@@ -2,11 +2,19 @@
 
 from __future__ import annotations
 
+from json import loads
 from operator import itemgetter
 from typing import Any
 
 from docutils import nodes, utils
 from docutils.transforms import frontmatter, misc, references
+
+from . import LIBRARY, Settings, Text, called
+
+try:
+    from . import _records
+except ImportError:  # it wasn't built, or not for this Python: nodes are made from JSON, which takes longer
+    _records = None  # type: ignore[assignment]
 
 _CLASSES = vars(nodes)
 _new_element, _new_text, _Text = object.__new__, str.__new__, nodes.Text  # the constructors of nodes would take four times as long
@@ -20,7 +28,8 @@ _LISTS = {
     ("citation", None): "citations",
 }
 _LABELS = {("footnote_reference", None): "footnote_refs", ("citation_reference", None): "citation_refs"}
-_UNPLACED = {"classes": ["system-messages"]}  # the attributes of the section of messages
+_LABELLED = frozenset(tag for tag, _ in (*_LISTS, *_LABELS))
+_UNPLACED = {"ids": [], "classes": ["system-messages"], "names": [], "dupnames": [], "backrefs": []}  # those of the section of messages
 # How messages of transforms begin: those that a transform places in the document, and others.
 _PLACED: list[tuple[Any, tuple[str, ...]]] = [
     (misc.ClassAttribute, ("No suitable element following ",)),
@@ -34,22 +43,26 @@ _OTHERS: list[tuple[Any, tuple[str, ...]]] = [
 ]
 
 
-def fill(document: Any, made: list[Any]) -> tuple[list[Any], list[Any]]:
+def read(text: Text, settings: Settings) -> tuple[memoryview, int]:
+    """A finished document for `fill`, and the program's exit status."""
+    return called(LIBRARY.rst_records if _records else LIBRARY.rst_json, text, settings)
+
+
+def fill(document: Any, made: memoryview) -> tuple[list[Any], list[Any]]:
     """Puts nodes into a document, and enters them into its tables.
 
     Gives the messages of the parser, in the order of the document, and those of transforms, in the order in which Docutils reports them. Those
     that transforms don't place in the document have no parent.
     """
-    _, _, attributes, *whole = made
-    document.attributes.update(attributes)
     noted: list[Any] = [document]
+    whole = _nodes(document, made, noted)
     unplaced: list[Any] = []
-    if whole and whole[-1][0] == "section" and whole[-1][2] == _UNPLACED:
-        unplaced = whole.pop()[4:]  # those after the title
-    _make(document, whole, document["source"], noted)
+    if whole and isinstance(whole[-1], nodes.section) and whole[-1].attributes == _UNPLACED:
+        unplaced = whole.pop().children[1:]  # those after the title
+    for message in unplaced:
+        message.parent = None
     document.children += whole
-    placed = [element for element in noted if element.tagname == "system_message"]
-    _make(None, unplaced, document["source"], noted)
+    placed = [element for element in noted if element.tagname == "system_message" and element.parent is not None]
     for element in noted:
         _note(element, document)
     if getattr(document.settings, "title", None) is not None:
@@ -57,6 +70,16 @@ def fill(document: Any, made: list[Any]) -> tuple[list[Any], list[Any]]:
     if utils.get_trim_footnote_ref_space(document.settings):
         _trim(document)
     return _sorted(placed, unplaced)
+
+
+def _nodes(document: Any, made: memoryview, noted: list[Any]) -> list[Any]:
+    """The nodes in a document, whose attributes it gets; to `noted` are added the elements with attributes that are noted."""
+    if _records:
+        return _records.nodes(bytes(made), document, document.attributes, _CLASSES, nodes.Element, nodes.Text, document["source"], noted)
+    _, _, attributes, *whole = loads(str(made, "utf-8"))
+    document.attributes.update(attributes)
+    _make(document, whole, document["source"], noted)
+    return whole
 
 
 def _make(parent: Any, children: list[Any], source: str, noted: list[Any]) -> None:
@@ -111,18 +134,32 @@ def _trim(document: Any) -> None:
 
 def _note(element: Any, document: Any) -> None:
     """Enters an element into the tables of its document."""
-    attributes = element.attributes
-    ids, names, dupnames = attributes["ids"], attributes["names"], attributes["dupnames"]
+    attributes, tag = element.attributes, element.tagname
+    ids, names = attributes["ids"], attributes["names"]
     for one in ids:
         document.ids[one] = element
-    if isinstance(element, nodes.system_message):
-        element["source"] = document["source"]
-    if isinstance(element, nodes.substitution_definition):
+    if tag == "system_message":
+        attributes["source"] = document["source"]
+    elif tag == "substitution_definition":
         for name in names:
             document.substitution_defs[name] = element
             document.substitution_names[nodes.fully_normalize_name(name)] = name
         return
-    title = _title(element) if names or dupnames else None
+    if names or attributes["dupnames"]:
+        _note_names(element, ids, names, attributes["dupnames"], document)
+    if "refid" in attributes:
+        document.refids.setdefault(attributes["refid"], []).append(element)
+    if tag in _LABELLED:
+        kind = (tag, attributes.get("auto"))
+        if kind in _LISTS:
+            getattr(document, _LISTS[kind]).append(element)
+        elif kind in _LABELS:
+            getattr(document, _LABELS[kind]).setdefault(nodes.fully_normalize_name(element.astext()), []).append(element)
+
+
+def _note_names(element: Any, ids: list[str], names: list[str], dupnames: list[str], document: Any) -> None:
+    """Enters the names of an element into the tables of its document."""
+    title = _title(element)
     for place, name in enumerate(names):
         own = ids[place] if len(ids) == len(names) else nodes.make_id(name)
         document.nameids[name] = own if own in ids else ids[0]
@@ -130,20 +167,13 @@ def _note(element: Any, document: Any) -> None:
     for name in dupnames:
         document.nameids.setdefault(name, None)
         document.nametypes.setdefault(name, name != title)
-    if "refid" in attributes:
-        document.refids.setdefault(attributes["refid"], []).append(element)
-    kind = (element.tagname, attributes.get("auto"))
-    if kind in _LISTS:
-        getattr(document, _LISTS[kind]).append(element)
-    elif kind in _LABELS:
-        getattr(document, _LABELS[kind]).setdefault(nodes.fully_normalize_name(element.astext()), []).append(element)
 
 
 def _title(element: Any) -> str | None:
     """The name that an element has by its title, if it is one that has a title."""
-    if isinstance(element, (nodes.document, nodes.section)):
-        element = element[0]
-    elif not isinstance(element, nodes.subtitle):
+    if element.tagname in ("section", "document"):
+        element = element.children[0]
+    elif element.tagname != "subtitle":
         return None
     name: str = nodes.fully_normalize_name(element.astext())
     return name

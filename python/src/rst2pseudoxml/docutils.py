@@ -19,7 +19,6 @@ from __future__ import annotations
 
 import functools
 import re
-from copy import copy
 from json import loads
 from typing import TYPE_CHECKING, Any, Callable, Iterable
 
@@ -32,7 +31,7 @@ from . import HALTED, LEVELS, LIBRARY, Refused, Settings, Text, answer, collecto
 from ._hand import build
 from ._machine import lines_of
 from ._names import UNNAMED, Hand, Names
-from ._nodes import fill
+from ._nodes import fill, read
 
 if TYPE_CHECKING:
     from typing_extensions import Unpack
@@ -82,7 +81,7 @@ class Parser(rst.Parser):
         """Puts a text into a document as the library finishes it."""
         made = _read(text, document, self.profile)
         with collector_paused():
-            of_parser, of_transforms = fill(document, loads(made))
+            of_parser, of_transforms = fill(document, made)
         for message in of_parser:
             _report(message, document.reporter)
         self.finish_parse()
@@ -99,7 +98,7 @@ def doctree(text: Text, settings: Any = None, source: str = "<stdin>", profile: 
     The `profile`, `hand` and exceptions are those of `Parser`.
     """
     parser = Parser(profile=profile, hand=hand)
-    document: Any = utils.new_document(source, settings or copy(_defaults()))
+    document: Any = utils.new_document(source, settings or _new_settings())
     parser.parse(text, document)
     document.transformer.add_transforms([transform for transform in _ALL if _is_needed(transform, document.settings)])
     document.transformer.apply_transforms()
@@ -115,7 +114,7 @@ def pseudoxml(text: Text, source: str = "<stdin>", hand: Hand = "registered", **
     `docutils.utils.SystemMessage`, and nothing is written.
     """
     options_of(given)  # refuses wrong ones
-    settings = copy(_defaults())
+    settings = _new_settings()
     settings.warning_stream = False
     settings.report_level = LEVELS[given.get("report", "warning")]
     settings.halt_level = LEVELS[given.get("halt", "severe")]
@@ -148,10 +147,17 @@ def _defaults() -> Any:
     return getattr(frontend, "get_default_settings")(Parser, standalone.Reader)  # unknown to types-docutils of 2022
 
 
-def _read(text: Text, document: Any, profile: str) -> str:
-    """The finished document as JSON, with all messages. If one of them halts the run, all up to it are reported, which is an exception."""
+def _new_settings() -> Any:
+    """Docutils' defaults, for one document."""
+    settings = object.__new__(frontend.Values)
+    vars(settings).update(vars(_defaults()))
+    return settings
+
+
+def _read(text: Text, document: Any, profile: str) -> memoryview:
+    """The finished document for `fill`, with all messages. If one of them halts the run, all up to it are reported, which is an exception."""
     settings, reporter = _settings_of(document, profile), document.reporter
-    made, status = answer(LIBRARY.rst_json, text, settings)
+    made, status = read(text, settings)
     if status == HALTED:
         for message in messages(text, **settings):
             block = [nodes.literal_block(message.block, message.block)] if message.block else []
