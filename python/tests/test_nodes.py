@@ -21,7 +21,7 @@ from docutils.readers import standalone
 
 import rst2pseudoxml
 from rst2pseudoxml import LIBRARY, _nodes, called
-from rst2pseudoxml.docutils import Parser, doctree
+from rst2pseudoxml.docutils import Parser, _defaults, doctree
 
 TEXT = "Title\n=====\n\nA *word*, a link_ and [1]_ with \u00e9.\n\n- an item\n\n.. [1] a\n.. _link: https://x.org/\n.. image:: a.png\n   :scale: 50\n"
 DEFAULTS = frontend.get_default_settings(Parser, standalone.Reader)
@@ -29,26 +29,25 @@ DEFAULTS.warning_stream = False
 DEFAULTS.halt_level = 5
 SOURCE = "a name of a source"
 VARIABLES = {**os.environ, "PYTHONPATH": os.pathsep.join(sys.path)}
-# Lets each allocation of a call fail in turn, as long as one does.
+# Lets each allocation of a call fail in turn. Prints how many calls failed, and how many nodes the others made.
 FAILING = """
 import _testcapi, sys
 from docutils import nodes
 from rst2pseudoxml import LIBRARY, _nodes, called
 records = bytes(called(LIBRARY.rst_records, sys.argv[1], {})[0])
-number, failed = 0, True
-while failed:
-    number += 1
-    attributes, noted = {}, []
+failed, made = 0, set()
+for number in range(1, 1000):
+    given = {}, vars(nodes), nodes.Element, nodes.Text, "x", []
     try:
         _testcapi.set_nomemory(number, number + 1)
         try:
-            _nodes._records.nodes(records, None, attributes, vars(nodes), nodes.Element, nodes.Text, "x", noted)
-            failed = False
+            found = _nodes._records.nodes(records, None, *given)
         finally:
             _testcapi.remove_mem_hooks()
+        made.add(len(found))
     except MemoryError:
-        pass
-print(number)
+        failed += 1
+print(failed, *made)
 """
 
 
@@ -95,6 +94,12 @@ class BesideJson(unittest.TestCase):
 
     def test_pages(self):
         self.same((name, data) for name, _, data in cases.pages(50))
+
+    def test_lists_are_own(self):
+        elements = list(doctree(TEXT).findall(nodes.Element))
+        lists = [value for element in elements for value in (element.children, *element.attributes.values()) if isinstance(value, list)]
+        self.assertEqual(len(lists), 6 * len(elements))
+        self.assertEqual(len({id(one) for one in lists}), len(lists))
 
     def test_differences_are_found(self):
         document = doctree(TEXT)
@@ -197,13 +202,15 @@ class Records(unittest.TestCase):
         if "No module named '_testcapi'" in run.stderr:
             self.skipTest("this Python can't refuse memory")
         self.assertEqual((run.returncode, run.stderr), (0, ""))
-        self.assertGreater(int(run.stdout), 100)
+        failed, *made = map(int, run.stdout.split())
+        self.assertGreater(failed, 100)
+        self.assertEqual(made, [len(self.nodes_of(self.records))])
 
 
 class Settings(unittest.TestCase):
     def test_own(self):
         one, other = doctree("a").settings, doctree("a").settings
-        self.assertEqual((type(one), vars(one)), (type(DEFAULTS), vars(frontend.get_default_settings(Parser, standalone.Reader))))
+        self.assertEqual((type(one), vars(one)), (type(DEFAULTS), vars(_defaults())))
         one.tab_width = 4
         self.assertEqual(other.tab_width, 8)
 
