@@ -13,7 +13,7 @@ use super::definition::definition;
 use super::paragraph::paragraph;
 use rst_block_nodes::{Style, message};
 use rst_block_state::{
-    OpenBlock, Pass, Result, Step, heading_of, number_at, parts_at, short_warning, source,
+    OpenBlock, Pass, Result, Step, heading_of, number_at, short_warning, source,
 };
 use rst_markup_blocks::{TextForm, below_text, text_form};
 use rst_markup_lines::first_char;
@@ -94,7 +94,7 @@ fn underlined(view: &View<'_>, level: &mut OpenBlock, short: bool, pass: &mut Pa
             overlined: false,
         };
         let text = view.line(at, &mut pass.looks);
-        let parts = parts_at(view, at);
+        let parts = view.parts(at);
         let line = number_at(view, at);
         let heading = heading_of(parts, style, text, line, warning, lines, pass)?;
         level.go_to(at + 2);
