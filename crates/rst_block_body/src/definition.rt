@@ -15,7 +15,7 @@ use rst_text::View;
 use rst_tree::{Node, Tag};
 
 /// An item of a definition list. The messages that explain why its term is a text come before the whole list.
-pub(crate) fn definition(
+pub fn definition(
     view: &View<'_>,
     level: &mut OpenBlock,
     infos: Vec<Node>,
