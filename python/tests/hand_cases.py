@@ -150,6 +150,20 @@ t
    s
    t
 
+| *u*
+|   v
+  w
+| x
+
+.. rubric:: Y *z*
+   a
+   :class: b
+
+c
+
+.. rubric:: D
+e
+
 .. _b: c
 """
 """Elements whose source texts count."""

@@ -168,17 +168,19 @@ class Examples(unittest.TestCase):
     def test_quotation_marks(self):
         self.same(hand_cases.QUOTES, smart_quotes=True)
 
+    TRANSLATED = (nodes.field_body, nodes.field_name, nodes.line, nodes.paragraph, nodes.rubric, nodes.term, nodes.title)
+
     def test_source_texts(self):
         """What translations read is as in Docutils: source texts, and the lines of what has them."""
 
         def read(parser):
             document = docutils.core.publish_doctree(hand_cases.SOURCES, parser=parser, settings_overrides={**SETTINGS, "warning_stream": io.StringIO()})
-            found = document.findall(lambda node: isinstance(node, (nodes.paragraph, nodes.title, nodes.term, nodes.field_body)))
+            found = document.findall(lambda node: isinstance(node, self.TRANSLATED))
             return [(node.tagname, node.rawsource.rstrip(), node.tagname != "field_body" and node.line) for node in found if not isinstance(node.parent, nodes.system_message)]
 
         wanted = read(None)
         self.assertEqual(read(Parser(hand="registered")), wanted)
-        self.assertEqual(len({tag for tag, *_ in wanted}), 4)
+        self.assertEqual({tag for tag, *_ in wanted}, {node.__name__ for node in self.TRANSLATED})
 
     def test_files(self):
         with tempfile.TemporaryDirectory() as name:
@@ -297,6 +299,11 @@ class Names(unittest.TestCase):
         with mock.patch.dict(roles._role_registry, {"title-reference": shout}):
             roles._roles.pop("", None)
             self.assertEqual(_names.Names("registered", "docutils").of("`a`", "en"), (set(), {""}))
+
+    def test_words_before_colons(self):
+        """A directive is only where dots are before its name."""
+        text = "a::\n\n  b c::\n\n.. d:: e::\n\n.. |f| g:: h\n\n:i:`j` k:`l` `m`: n `o`:p:\n"
+        self.assertEqual(_names.Names("all", "docutils").of(text, "en"), ({"d", "e", "g"}, {"i", "p"}))
 
     def test_in_the_place_of_docutils(self):
         """What an extension has registered under a name of the profile is handed back."""

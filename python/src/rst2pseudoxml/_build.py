@@ -131,15 +131,8 @@ class Builder:
             node.source = node.line = None  # as it is in Docutils while a directive has it
         if isinstance(node, _TextElement):
             self.put(node, inside, holder, holder)
-            if tag == "paragraph":
-                source = sources.of_paragraph(self.lines, found[1])
-                if self.has_quotes and "\\" in source:
-                    mark_escapes(node, source)
-                node.rawsource = "" if self.tables else source  # in a table the lines hold other cells, too
-            elif tag in ("term", "title"):
-                node.rawsource = sources.of_text(self.lines, found[1])
-                if parent.tagname in _PSEUDO_SECTIONS:
-                    node.source = node.line = None
+            if tag in sources.OF:
+                self.source(parent, node, found[1])
             elif isinstance(node, _FIXED) and len(inside) == 1 and inside[0].__class__ is str:
                 node.rawsource = inside[0]
             self.name(node, given, node)
@@ -157,6 +150,18 @@ class Builder:
                 self.flush(parent)
             elif tag == "figure" and self.notes:
                 self.flush(_legend(node))
+
+    def source(self, parent: Any, node: Any, line: int) -> None:
+        """Gives an element that begins at a line its source text, and the line that it has in Docutils."""
+        tag, outside = node.tagname, parent
+        while outside.tagname == "line_block":
+            outside = outside.parent
+        text = sources.OF[tag](self.lines, line)
+        if self.has_quotes and "\\" in text and tag == "paragraph":
+            mark_escapes(node, text)
+        node.rawsource = "" if self.tables else text  # in a table the lines hold other cells, too
+        line = sources.line_of(self.lines, tag, line, parent.tagname, outside is self.open[-1])
+        node.source, node.line = self.place(line and line + self.shift)
 
     def block(self, node: Any, found: list[Any], holder: Any) -> None:
         """What is in an element that holds no text itself."""

@@ -36,6 +36,23 @@ def of_paragraph(lines: StringList, line: int) -> str:
     return "\n".join([of_text(lines, line), *(text.lstrip(" ") for text in below)])
 
 
+def of_argument(lines: StringList, line: int) -> str:
+    """The argument of a directive that begins at a line."""
+    return of_paragraph(lines, line).partition("\n:")[0]  # without the options
+
+
+def of_line(lines: StringList, line: int) -> str:
+    """A line of a line block, with those in which it goes on."""
+    below = takewhile(lambda text: text.strip() and not text.lstrip(" ").startswith("|"), _rows_below(lines, line))
+    return "\n".join([row(lines, line).partition("|")[2].strip(" "), *(text.strip(" ") for text in below)])
+
+
+def of_field_name(lines: StringList, line: int) -> str:
+    """The name of the field that begins at a line."""
+    mark, column = _columns(row(lines, line))
+    return row(lines, line)[mark:column].strip(" ")[1:-1]
+
+
 def of_field_body(lines: StringList, line: int) -> str:
     """The body of the field that begins at a line."""
     below = _below(lines, line, _columns(row(lines, line))[0])
@@ -60,6 +77,27 @@ def line_of_term(lines: StringList, line: int, is_last: bool) -> int:
     while is_last and below and not below[-1]:
         below.pop()
     return line + len(below) - 1
+
+
+OF = {
+    "field_name": of_field_name,
+    "line": of_line,
+    "paragraph": of_paragraph,
+    "rubric": of_argument,
+    "term": of_text,
+    "title": of_argument,
+}
+"""What finds the source text of an element in lines, given the line at which it begins."""
+
+
+def line_of(lines: StringList, tag: str, line: int, parent: str, is_outside: bool) -> int:
+    """The line that Docutils gives a text that begins at a line; 0 if none. It is outside if it isn't in a block of the document's or a section's."""
+    if tag == "line":
+        return line + of_line(lines, line).count("\n") if is_outside else 0
+    if tag == "rubric" and is_outside:
+        has_options = "\n:" in of_paragraph(lines, line)
+        return 0 if has_options else line + len(_below(lines, line, max(row(lines, line).find(".."), 0)))
+    return 0 if tag == "field_name" or (tag == "title" and parent in ("topic", "sidebar")) else line
 
 
 def _below(lines: StringList, line: int, column: int) -> list[str]:
