@@ -1,7 +1,7 @@
 use Rattle.std.proofs.Common.{◌≡◌, ◌+◌, ◌<◌, ◌≤◌, suc, [], ◌∷◌, length, drop, length-drop, arith, rules, refl, sym, subst, ap, ◌∙◌}
 use Rattle.std.proofs.lemmas.List.{drop-drop}
 use Rattle.std.proofs.lemmas.Result.{IfOk-weaker}
-use Rattle.std.specs.Prelude.{◌≢◌, Result, IfOk}
+use Rattle.std.specs.Prelude.{◌≢◌, Result, Ok, IfOk}
 use Rattle.rst_text.specs.Block.{Block}
 use Rattle.rst_text.specs.ViewBlock.{block_of}
 use Rattle.rst_markup_blocks.specs.declared.begun.Begun.{Begun}
@@ -12,9 +12,8 @@ use Rattle.rst_markup_blocks.specs.declared.kind.Kind.TheVariants as kinds
 use Rattle.rst_markup_blocks.specs.declared.lines.LineTest.TheVariants.{Blank as BlankTest}
 use Rattle.rst_markup_blocks.proofs.RowLemmas.{row_at}
 use Rattle.rst_block_nodes.specs.declared.fault.BlockFault.{BlockFault}
-use Rattle.rst_block_state.specs.looks.Ledger.{IsPaid, most_left, least_left, Takes}
+use Rattle.rst_block_state.specs.looks.Ledger.{most_left, least_left, Takes}
 use Rattle.rst_block_state.specs.machine.Meanings.{Keeps, comes, reads}
-use Rattle.rst_block_state.specs.machine.Steps.{IsStep}
 use Rattle.rst_block_state.specs.declared.open_block.OpenBlock.{OpenBlock}
 use Rattle.rst_block_state.specs.declared.step.Step.{Step}
 use Rattle.rst_block_state.specs.declared.step.Step.TheVariants.{Next}
@@ -25,7 +24,6 @@ use Rattle.rst_block_state.proofs.NextConstructs.{IsFilled, are_blank, blank_rea
 use Rattle.rst_block.specs.Reading.{ContinuesFrom}
 use Rattle.rst_block.proofs.Stack.{next_of_step}
 use Rattle.rst_block.proofs.Waiting.{stops}
-use Rattle.rst_block_body.specs.ReadSteps.{IsReadStep}
 use Rattle.rst_block_body.proofs.ReadLemmas.{text_read}
 use Rattle.rst_block_body.proofs.StepsPaid.{step_taken, text_taken, takes_then, takes_none}
 use Rattle.rst_block.proofs.machine.next.Goals as goal
@@ -59,16 +57,21 @@ loop-level-preserved-in-Blank c =
           (omega (arith, end, all, c.begun_at.ensures.looked.1, c.lines_end.ensures.looked.1)) (omega (arith, end, all, c.begun_at.ensures.looked.0, c.lines_end.ensures.looked.0)));
     }
 
-pub title_or_paragraph-requires-clause-text-in-Text : goal.title_or_paragraph-requires-clause-text-in-Text
-title_or_paragraph-requires-clause-text-in-Text c = rw c.new.ensures.items (next_of Text c.loop-level.level (block_of c.args.view.now) c.in-Text.ensures.begun tt)
+pub title_or_paragraph-requires : goal.title_or_paragraph-requires
+title_or_paragraph-requires c = record {
+  inside = omega (arith, c.loop-level-test.true, c.len.ensures);
+  text = rw c.new-in_default-text_form_at.ensures.items (next_of Text c.loop-level.level (block_of c.args.view.now) c.in-Text.ensures.begun tt);
+  form = sym c.text_form_at.ensures.form;
+  flat = c.in_default-text_form_at.not-Definition;
+}
 
 -- a title or a paragraph is read
-pub loop-level-preserved-in-Text : goal.loop-level-preserved-in-Text
-loop-level-preserved-in-Text c =
+pub loop-level-preserved : goal.loop-level-preserved
+loop-level-preserved c =
     let B : Block = block_of c.args.view.now in
     let P = c.loop-level.pass in
     let inside : c.loop-level.level.at < length B = omega (arith, c.loop-level-test.true, c.len.ensures) in
-    let there = text_read {before = record P { looks = c.begun_at.new.looks }} {mid = record P { looks = c.text_form_at.new.looks }} c.in_ok-title_or_paragraph-in-Text.ensures inside refl c.text_form_at.ensures.looked in
+    let there = text_read {before = record P { looks = c.begun_at.new.looks }} {mid = record P { looks = c.text_form_at.new.looks }} c.in_ok-title_or_paragraph-in_default-text_form_at.ensures inside refl c.text_form_at.ensures.looked in
     record {
       on = omega (arith, c.loop-level.invariant.on, there.step);
       depth = there.paid.depth ∙ c.loop-level.invariant.depth;
@@ -77,29 +80,29 @@ loop-level-preserved-in-Text c =
     }
 
 -- what a step leads to that is taken after lines that were read
-continues : {B : Block} {first old new : OpenBlock} {before mid after : Pass} (result : Result Step BlockFault) → old.depth ≡ first.depth → reads old B mid.numbers ≡ reads first B before.numbers
+continues : {B : Block} {first new : OpenBlock} {before after : Pass} (old : OpenBlock) (mid : Pass) (result : Result Step BlockFault) → old.depth ≡ first.depth → reads old B mid.numbers ≡ reads first B before.numbers
     → Takes (most_left first B Next) (least_left first B Next) before.looks (most_left old B Next) (least_left old B Next) mid.looks → IfOk result (λ _. new.depth ≡ old.depth)
     → Keeps result (λ s. comes new B s after.numbers) (reads old B mid.numbers) → IfOk result (λ s. Takes (most_left old B Next) (least_left old B Next) mid.looks (most_left new B s) (least_left new B s) after.looks)
     → ContinuesFrom B first Next before new after result
-continues {B} {new = new} {after = after} result depth same taken kept read paid = record {
+continues {B} {new = new} {after = after} old mid result depth same taken kept read paid = record {
   kept = IfOk-weaker result _ _ (λ _ h. h ∙ depth) kept;
   read = subst (λ given. Keeps result (λ s. comes new B s after.numbers) given) same read;
   paid = IfOk-weaker result _ _ (λ _ h. takes_then taken h) paid;
 }
 
-pub returns-in-Definition-in-Text : goal.returns-in-Definition-in-Text
-returns-in-Definition-in-Text c =
+pub definition-requires-clause-text : goal.definition-requires-clause-text
+definition-requires-clause-text c = rw c.new.ensures.items (next_of Text c.loop-level.level (block_of c.args.view.now) c.in-Text.ensures.begun tt)
+
+pub returns-in-Definition-clause-goes : goal.returns-in-Definition-clause-goes
+returns-in-Definition-clause-goes c =
     let B : Block = block_of c.args.view.now in
     let P = c.loop-level.pass in
     let l = c.loop-level.level in
     let result = c.definition.result in
     let inside : l.at < length B = omega (arith, c.loop-level-test.true, c.len.ensures) in
     let there = text_read {before = record P { looks = c.begun_at.new.looks }} {mid = record P { looks = c.text_form_at.new.looks }} c.definition.ensures inside refl c.text_form_at.ensures.looked in
-    record {
-      next = IfOk-weaker result _ _ (λ s h. next_of_step B c.args.level.now.at l.at c.definition.new.level.at s c.loop-level.invariant.on inside h) there.step;
-      goes = continues result c.loop-level.invariant.depth c.loop-level.invariant.reads c.loop-level.invariant.takes (IfOk-weaker result _ _ (λ _ h. h.depth) there.paid) there.read
-          (text_taken _ _ B _ _ _ result inside c.in-Text.ensures.begun c.begun_at.ensures.looked.0 c.begun_at.ensures.looked.1 there.paid);
-    }
+    continues l P result c.loop-level.invariant.depth c.loop-level.invariant.reads c.loop-level.invariant.takes (IfOk-weaker result _ _ (λ _ h. h.depth) there.paid) there.read
+    (text_taken _ _ B _ _ _ result inside c.in-Text.ensures.begun c.begun_at.ensures.looked.0 c.begun_at.ensures.looked.1 there.paid)
 
 -- what begins at a line that isn't blank
 filled : (begun : Begun) → begun ≢ Blank → IsFilled begun
@@ -115,7 +118,7 @@ returns-in_default c =
     let inside : l.at < length B = omega (arith, c.loop-level-test.true, c.len.ensures) in
     record {
       next = IfOk-weaker result _ _ (λ s h. next_of_step B c.args.level.now.at l.at c.marked_step.new.level.at s c.loop-level.invariant.on inside h) there.step;
-      goes = continues result c.loop-level.invariant.depth c.loop-level.invariant.reads c.loop-level.invariant.takes (IfOk-weaker result _ _ (λ _ h. h.depth) there.paid) there.read
+      goes = continues l c.loop-level.pass result c.loop-level.invariant.depth c.loop-level.invariant.reads c.loop-level.invariant.takes (IfOk-weaker result _ _ (λ _ h. h.depth) there.paid) there.read
           (step_taken c.begun_at.result _ _ B _ _ _ result inside c.begun_at.ensures.begun (filled c.begun_at.result (search rules)) c.begun_at.ensures.looked.0 c.begun_at.ensures.looked.1 there.paid);
     }
 
