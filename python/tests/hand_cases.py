@@ -155,6 +155,15 @@ t
   w
 | x
 
+- | u
+    v
+- w
+
+:x:
+  *y*
+  z
+:a: b
+
 .. rubric:: Y *z*
    a
    :class: b

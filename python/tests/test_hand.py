@@ -168,7 +168,7 @@ class Examples(unittest.TestCase):
     def test_quotation_marks(self):
         self.same(hand_cases.QUOTES, smart_quotes=True)
 
-    TRANSLATED = (nodes.field_body, nodes.field_name, nodes.line, nodes.paragraph, nodes.rubric, nodes.term, nodes.title)
+    TRANSLATED = (nodes.field_body, nodes.field_name, nodes.label, nodes.line, nodes.paragraph, nodes.rubric, nodes.term, nodes.title)
 
     def test_source_texts(self):
         """What translations read is as in Docutils: source texts, and the lines of what has them."""

@@ -30,6 +30,8 @@ def of_text(lines: StringList, line: int) -> str:
 def of_paragraph(lines: StringList, line: int) -> str:
     """A paragraph outside of tables. The lines below its first are indented alike, and more than a mark before it."""
     mark, column = _columns(row(lines, line))
+    if mark >= 0 and column > len(row(lines, line)):  # the paragraph begins below a mark
+        return of_paragraph(lines, line + 1)
     second = _indent(row(lines, line + 1))
     is_alike = second > mark if mark >= 0 else second == column
     below = takewhile(lambda text: text and _indent(text) == second, _rows_below(lines, line)) if is_alike else ()
@@ -43,8 +45,9 @@ def of_argument(lines: StringList, line: int) -> str:
 
 def of_line(lines: StringList, line: int) -> str:
     """A line of a line block, with those in which it goes on."""
-    below = takewhile(lambda text: text.strip() and not text.lstrip(" ").startswith("|"), _rows_below(lines, line))
-    return "\n".join([row(lines, line).partition("|")[2].strip(" "), *(text.strip(" ") for text in below)])
+    before, _, first = row(lines, line).partition("|")
+    below = takewhile(lambda text: text and _indent(text) > len(before), _rows_below(lines, line))
+    return "\n".join([first.strip(" "), *(text.strip(" ") for text in below)])
 
 
 def of_field_name(lines: StringList, line: int) -> str:
@@ -56,7 +59,7 @@ def of_field_name(lines: StringList, line: int) -> str:
 def of_field_body(lines: StringList, line: int) -> str:
     """The body of the field that begins at a line."""
     below = _below(lines, line, _columns(row(lines, line))[0])
-    return (of_text(lines, line) + "\n" + textwrap.dedent("\n".join(below))).rstrip()
+    return (of_text(lines, line) + "\n" + textwrap.dedent("\n".join(below))).strip()
 
 
 def of_explicit(lines: StringList, line: int, until_blank: bool) -> str:
@@ -81,6 +84,7 @@ def line_of_term(lines: StringList, line: int, is_last: bool) -> int:
 
 OF = {
     "field_name": of_field_name,
+    "label": lambda *_: "",
     "line": of_line,
     "paragraph": of_paragraph,
     "rubric": of_argument,
@@ -97,7 +101,7 @@ def line_of(lines: StringList, tag: str, line: int, parent: str, is_outside: boo
     if tag == "rubric" and is_outside:
         has_options = "\n:" in of_paragraph(lines, line)
         return 0 if has_options else line + len(_below(lines, line, max(row(lines, line).find(".."), 0)))
-    return 0 if tag == "field_name" or (tag == "title" and parent in ("topic", "sidebar")) else line
+    return 0 if tag in ("field_name", "label") or (tag == "title" and parent in ("topic", "sidebar")) else line
 
 
 def _below(lines: StringList, line: int, column: int) -> list[str]:
@@ -112,7 +116,7 @@ def _rows_below(lines: StringList, line: int) -> Iterator[str]:
 
 def _columns(text: str) -> tuple[int, int]:
     """Where the last mark before a text stands in its line, less than 0 if there is none, and where the text begins."""
-    found = _MARK.match(text)
+    found = _MARK.match(text + " ")  # a mark may be all that is in its line
     return (found.start(1), found.end()) if found else (-1, 0)
 
 
