@@ -52,6 +52,24 @@ NAMES = {
 }
 """What directives and roles share with the text around them."""
 
+EXTENSIONS = {
+    "content": "A\n=\n\n.. box:: b *c* :shout:`d`\n   :titles:\n\n   e [#]_\n\n   F\n   -\n\n   g\n\nH\n-\n\n.. [#] i\n\nF_\n",
+    "at each place": "- .. box:: a\n\n     b\n\n- .. Box::\n\n   c\n\nd\n  .. box::\n\n     e\n\n.. note:: f\n\n   .. box:: g\n\n:h: .. box::\n\n    > .. box:: i\n\n.. |j| box:: k\n\n|j|\n",
+    "a target": "See here_.\n\n.. x:here:: here A\n\nA\n=\n\nb\n\n.. x:here:: c here\n.. x:here:: c nope\n",
+    "a transform": "a\n\n.. count:: all\n\n- b\n\n  .. count:: of\n\nc\n",
+    "refusals": ".. refuse::\n\n.. refuse::\n\n   a\n\n\nb\n\n- .. refuse::\n\n     a\n\n\n- c\n\n.. box:: a\n   :nope:\n\n.. note::\n\n   .. refuse::\n\n\nb\n",
+    "roles": "a :shout:`b` `c`:shout: :Shout:`d\\ e\\*` :shout:`f\ng` :shout:`wrong` *h :shout:`said`\n\n- :shout:`wrong`:\n\nA :shout:`said` :shout:`wrong`\n==============================\n\ni :shout:`said`\n  j\n",
+    "roles that are made": ".. role:: big(shout)\n   :size: 7\n\n:big:`a` |b|\n\n.. |b| replace:: :big:`c` :shout:`said` d\n",
+    "lines that are added": "a\n\n.. inserted::\n\n   b\n\n   C\n   =\n\n   d\n\n   E\n   -\n\n   f :nope:`g`\n\nh\n\nI\n=\n\n.. inserted::\n\n   J\n   =\n\n   k\n\nl\n\nM\n-\n\n- .. inserted::\n\n     n\n\n  o\n\n.. _p:\n\nq\n",
+    "titles": "A\n=\n\nB\n-\n\n.. box::\n   :titles:\n\n   C\n   ~\n\n   d\n\n   E\n   ~\n\nF\n~\n\nG\n-\n\n====\nH\n====\n\n.. box::\n\nI\n====\nJ\n-\n\n.. box::\n",
+    "a default role in the middle": "`a` `b`_\n\n.. role:: own(shout)\n   :size: 7\n\n.. default-role:: own\n\n`c` `d\\ e\\*` :title:`f`\n\n.. default-role::\n\n`g`\n\n.. _b: h\n",
+    "a default role at each place": "`a`\n\n.. default-role:: shout\n\nA `title`\n=========\n\n- `b` *c `said`\n\nd\n  `h`\n\n:i `j`: `wrong`\n\n.. note:: `m`\n\n   .. box:: `n`\n\n      `o` |p|\n\n   `q`__\n\n.. |p| replace:: `r`\n__ s\n",
+    "a default role in terms and cells": "`a`\n\n.. default-role:: sub\n\nb `c` : `d`\n  e\n\n+-----+----------------+\n| `f` | .. class:: g   |\n|     |                |\n|     |    `h`         |\n+-----+----------------+\n\n===  ===\n`i`  j\n===  ===\n",
+    "a default role that is set inside": "`a`\n\n.. box::\n\n   `b`\n\n   .. default-role:: shout\n\n   `c`\n\n`d`\n\n.. note::\n\n   .. default-role::\n\n   `e`\n\n.. default-role:: nope\n\n`f`\n\n- .. default-role:: math\n\nA `b`\n=====\n",
+    "the same names": "A\n=\n\n.. box::\n\n   _`a` b\n\n.. x:here:: a a\n\nA\n=\n\n_`a`\n\na_\n",
+}
+"""Texts with the directives and the role of the extension in test_hand.py."""
+
 QUOTES = """.. class:: x
 
 "a" 'b' *c*\\'s :sub:`d`\\ 's \\"e\\" ``f\\'``\\'s f\\\\'s "g\\
@@ -62,3 +80,99 @@ h" i\\*'s
   *o*\\ 's
 """
 """Quotation marks behind backslashes."""
+
+SOURCES = """A *title*
+=========
+
+=====
+ B b
+=====
+
+- a `b`_
+  c
+- d
+
+  *e*
+- - f
+    g
+  - h
+
+1. *f* g::
+
+     h
+
+#. i
+#. j
+   k
+
+(l) m
+    n
+
+o *p* : q
+  r
+  *s*
+
+t
+  u
+
+:p `q`\\: a: *r*
+  s
+
+    t
+  u
+:v: w
+:x: *y*
+
+-a FILE, --b=FILE  *z*
+                   a
+--c  d
+
+.. note:: d *e*
+   f
+
+   - g
+     h
+   - i
+
+.. [1] j
+   k
+.. class:: l
+
+.. admonition:: M *n*
+
+   o
+
+   p
+     q
+
+.. topic:: R
+
+   s
+   t
+
+| *u*
+|   v
+  w
+| x
+
+- | u
+    v
+- w
+
+:x:
+  *y*
+  z
+:a: b
+
+.. rubric:: Y *z*
+   a
+   :class: b
+
+c
+
+.. rubric:: D
+e
+
+.. _b: c
+"""
+"""Elements whose source texts count."""

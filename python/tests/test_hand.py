@@ -139,21 +139,6 @@ def register():
     roles.register_local_role("shout", shout)
 
 
-EXTENSIONS = {
-    "content": "A\n=\n\n.. box:: b *c* :shout:`d`\n   :titles:\n\n   e [#]_\n\n   F\n   -\n\n   g\n\nH\n-\n\n.. [#] i\n\nF_\n",
-    "at each place": "- .. box:: a\n\n     b\n\n- .. Box::\n\n   c\n\nd\n  .. box::\n\n     e\n\n.. note:: f\n\n   .. box:: g\n\n:h: .. box::\n\n    > .. box:: i\n\n.. |j| box:: k\n\n|j|\n",
-    "a target": "See here_.\n\n.. x:here:: here A\n\nA\n=\n\nb\n\n.. x:here:: c here\n.. x:here:: c nope\n",
-    "a transform": "a\n\n.. count:: all\n\n- b\n\n  .. count:: of\n\nc\n",
-    "refusals": ".. refuse::\n\n.. refuse::\n\n   a\n\n\nb\n\n- .. refuse::\n\n     a\n\n\n- c\n\n.. box:: a\n   :nope:\n\n.. note::\n\n   .. refuse::\n\n\nb\n",
-    "roles": "a :shout:`b` `c`:shout: :Shout:`d\\ e\\*` :shout:`f\ng` :shout:`wrong` *h :shout:`said`\n\n- :shout:`wrong`:\n\nA :shout:`said` :shout:`wrong`\n==============================\n\ni :shout:`said`\n  j\n",
-    "roles that are made": ".. role:: big(shout)\n   :size: 7\n\n:big:`a` |b|\n\n.. |b| replace:: :big:`c` :shout:`said` d\n",
-    "lines that are added": "a\n\n.. inserted::\n\n   b\n\n   C\n   =\n\n   d\n\n   E\n   -\n\n   f :nope:`g`\n\nh\n\nI\n=\n\n.. inserted::\n\n   J\n   =\n\n   k\n\nl\n\nM\n-\n\n- .. inserted::\n\n     n\n\n  o\n\n.. _p:\n\nq\n",
-    "titles": "A\n=\n\nB\n-\n\n.. box::\n   :titles:\n\n   C\n   ~\n\n   d\n\n   E\n   ~\n\nF\n~\n\nG\n-\n\n====\nH\n====\n\n.. box::\n\nI\n====\nJ\n-\n\n.. box::\n",
-    "the same names": "A\n=\n\n.. box::\n\n   _`a` b\n\n.. x:here:: a a\n\nA\n=\n\n_`a`\n\na_\n",
-}
-"""Texts with the directives and the role of an extension."""
-
-
 class Examples(unittest.TestCase):
     def same(self, text, lowest=1, **settings):
         for hand in ("registered", "all"):
@@ -169,7 +154,7 @@ class Examples(unittest.TestCase):
                 self.same(text)
 
     def test_extensions(self):
-        for name, text in EXTENSIONS.items():
+        for name, text in hand_cases.EXTENSIONS.items():
             with self.subTest(name):
                 self.same(text)
                 self.assertNotEqual(published(text, Parser())[0], published(text)[0])
@@ -183,23 +168,41 @@ class Examples(unittest.TestCase):
     def test_quotation_marks(self):
         self.same(hand_cases.QUOTES, smart_quotes=True)
 
+    TRANSLATED = (nodes.field_body, nodes.field_name, nodes.label, nodes.line, nodes.paragraph, nodes.rubric, nodes.term, nodes.title)
+
+    def test_source_texts(self):
+        """What translations read is as in Docutils: source texts, and the lines of what has them."""
+
+        def read(parser):
+            document = docutils.core.publish_doctree(hand_cases.SOURCES, parser=parser, settings_overrides={**SETTINGS, "warning_stream": io.StringIO()})
+            found = document.findall(lambda node: isinstance(node, self.TRANSLATED))
+            return [(node.tagname, node.rawsource.rstrip(), node.tagname != "field_body" and node.line) for node in found if not isinstance(node.parent, nodes.system_message)]
+
+        wanted = read(None)
+        self.assertEqual(read(Parser(hand="registered")), wanted)
+        self.assertEqual({tag for tag, *_ in wanted}, {node.__name__ for node in self.TRANSLATED})
+
     def test_files(self):
         with tempfile.TemporaryDirectory() as name:
             folder = pathlib.Path(name)
             (folder / "part.txt").write_text("In\n==\n\n*a* :nope:`b`\n\nDeep\n----\n\n.. role:: made\n\n.. |in| replace:: c\n")
-            (folder / "more.txt").write_text(".. include:: part.txt\n\n.. _more:\n\nd\n")
-            text = "{}.. include:: part.txt\n\nbelow |in| :made:`e`\n\n{}.. include:: more.txt\n   :start-line: 0\n\n- .. include:: part.txt\n     :literal:\n\n.. _f:\n\n.. raw:: html\n   :file: part.txt\n\ng_\n"
+            (folder / "more.txt").write_text(".. include:: part.txt\n\n.. default-role:: sub\n\n.. _more:\n\nd\n")
+            text = "{}.. include:: part.txt\n\nbelow |in| :made:`e`\n\n{}.. include:: more.txt\n   :start-line: 0\n\n- .. include:: part.txt\n     :literal:\n\n.. _f:\n\n.. raw:: html\n   :file: part.txt\n\ng_ `h`\n"
             for above, title in (("", ""), ("A\n=\n\n", "B\n-\n\n"), ("", "In\n==\n\n"), ("A\n-\n\nB\n=\n\n", "C\n-\n\n")):
                 for given in ({}, {"file_insertion_enabled": False}):
                     with self.subTest(above=above, title=title, **given):
                         self.same(text.format(above, title), 2, source=str(folder / "page.rst"), **given)
 
     def test_default_role(self):
-        text = "`a` :title:`b` `c`_\n"
-        roles._roles[""] = shout
-        self.addCleanup(roles._roles.clear)
-        document = doctree(text, hand="registered")
-        self.assertEqual([node.astext() for node in document.findall(nodes.strong)], ["A"])
+        """A role that was registered as the default role counts, for one document."""
+        for text, strong in (("`a` :title:`b` `c`_\n", ["A"]), (".. box::\n\n   `d`\n", ["D"]), ("e\n", []), (".. box:: f\n", [])):
+            with self.subTest(text):
+                register()
+                roles._roles[""] = shout
+                with mock.patch.object(docutils.parsers.rst.Parser, "parse", side_effect=AssertionError("Docutils reads the whole text")):
+                    document = doctree(text, hand="registered")
+                self.assertEqual([node.astext() for node in document.findall(nodes.strong)], strong)
+                self.assertNotIn("", roles._roles)
 
 
 class Beside(unittest.TestCase):
@@ -277,6 +280,30 @@ class Names(unittest.TestCase):
             ("others", ({"box", "nope", "count", "class"}, {"shout", "b"})),
         ):
             self.assertEqual(_names.Names(hand, "docutils").of(text, "en"), wanted, hand)
+
+    def test_default_role(self):
+        """Text without a role is handed back only if it may have another role than Docutils gives it."""
+        title = roles._role_registry["title-reference"]
+        for text, language, default, wanted in (
+            ("`a` :title:`b`", "en", title, (set(), set())),
+            ("`a`", "en", shout, (set(), {""})),
+            ("a", "en", shout, (set(), set())),
+            ("`a`\n\n.. default-role:: sub", "en", title, ({"default-role"}, {""})),
+            ("a\n\n.. default-role:: sub", "en", title, ({"default-role"}, set())),
+            ("`a`\n\n.. include:: b", "en", title, ({"include"}, {""})),
+            ("`a`\n\n.. Standardrolle:: sub", "de", title, ({"standardrolle"}, {""})),
+            (".. rolle:: a\n\n:a:`b` :c:`d`", "de", title, ({"rolle"}, {"a"})),
+        ):
+            with self.subTest(text), mock.patch.dict(roles._roles, {"": default}):
+                self.assertEqual(_names.Names("registered", "docutils").of(text, language), wanted)
+        with mock.patch.dict(roles._role_registry, {"title-reference": shout}):
+            roles._roles.pop("", None)
+            self.assertEqual(_names.Names("registered", "docutils").of("`a`", "en"), (set(), {""}))
+
+    def test_words_before_colons(self):
+        """A directive is only where dots are before its name."""
+        text = "a::\n\n  b c::\n\n.. d:: e::\n\n.. |f| g:: h\n\n:i:`j` k:`l` `m`: n `o`:p:\n"
+        self.assertEqual(_names.Names("all", "docutils").of(text, "en"), ({"d", "e", "g"}, {"i", "p"}))
 
     def test_in_the_place_of_docutils(self):
         """What an extension has registered under a name of the profile is handed back."""

@@ -18,11 +18,11 @@ by_colons text = slice_split (λ b. b == 58) text
 abbrev pub holds_role_end : List ℕ → Bool
 holds_role_end text = list_any (λ piece. slice_index piece 0 == 96) (drop 1 (by_colons text))
 
--- the mark of `roles`: what stands between two colons, or before or behind all of them, is the name of a wider role
+-- the mark of `roles`: what stands between two colons, before the first or after the last, is the name of a wider role
 abbrev pub holds_wider_role : List ℕ → Bool
 holds_wider_role text = list_any is_wider_role (by_colons text)
 
--- the last word of a text, without the white space behind it
+-- the last word of a text, without the white space after it
 abbrev pub last_word : List ℕ → List ℕ
 last_word text = after_last is_ascii_whitespace (take (length text - suffix_len is_ascii_whitespace text) text)
 
@@ -30,7 +30,7 @@ last_word text = after_last is_ascii_whitespace (take (length text - suffix_len 
 abbrev pub ends_with_directive : List ℕ → Bool
 ends_with_directive text = is_wider_directive (last_word text)
 
--- the mark of `directives`: such a word stands before a colon that is the last or has another directly behind it
+-- the mark of `directives`: such a word stands before a colon that is the last or has another directly after it
 abbrev pub holds_wider_directive : List ℕ → Bool
 holds_wider_directive text = let pieces = by_colons text in list_any (λ pair. length pair.1 == 0 && ends_with_directive pair.0) (zip pieces (drop 1 pieces))
 

@@ -51,14 +51,14 @@ fn holds_at_sign(text: &str) -> bool
     text.as_bytes().contains(&b'@')
 }
 
-/// Whether what stands between two colons, or before or behind all of them, is the name of a wider role.
+/// Whether what stands between two colons, before the first or after the last, is the name of a wider role.
 fn holds_wider_role(text: &str) -> bool
     ensures { result ≡ spec.holds_wider_role text.now }
 {
     text.split(':').any(|piece| is_wider_role(piece))
 }
 
-/// Whether the name of a wider directive, white space behind it or not, stands before a colon that is the last or has another directly
+/// Whether the name of a wider directive, with white space after it or not, stands before a colon that is the last or has another directly
 /// behind it.
 fn holds_wider_directive(text: &str) -> bool
     ensures { result ≡ spec.holds_wider_directive text.now }
@@ -74,7 +74,7 @@ fn ends_with_directive(text: &str) -> bool
     is_wider_directive(last_word(text))
 }
 
-/// The last word of a text, without the white space behind it.
+/// The last word of a text, without the white space after it.
 fn last_word(text: &str) -> &str
     ensures { result.now ≡ spec.last_word text.now }
 {
@@ -82,7 +82,7 @@ fn last_word(text: &str) -> &str
     &text[word_start(text.as_bytes())..]
 }
 
-/// The place behind the last white character of ASCII, or the beginning.
+/// The place after the last white character of ASCII, or the beginning.
 fn word_start(text: &[u8]) -> usize
     ensures value { result ≡ length text.now - suffix_len (λ b. not (is_ascii_whitespace b)) text.now }
     ensures within { result ≤ length text.now }

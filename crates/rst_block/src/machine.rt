@@ -21,12 +21,14 @@ ghost use Rattle.rst_markup_tables.specs.declared.results.TableResult.TheVariant
 
 use super::ended::closed;
 use super::frames::Frames;
-use super::step::step_at;
+use super::step::marked_step;
+use rst_block_body::definition::definition;
 use rst_block_body::table::{after_table, entry_of, table_of};
+use rst_block_body::text::{text_form_at, title_or_paragraph};
 use rst_block_state::{
     BlockFault, DEEPEST, Ended, OpenBlock, Pass, Result, Step, Waits, inside, opened,
 };
-use rst_markup_blocks::{LineTest, Part, lines_end};
+use rst_markup_blocks::{Begun, LineTest, Part, TextForm, begun_at, lines_end};
 use rst_markup_tables::{Cell, Rows, TableResult};
 use rst_text::{Lines, View};
 use rst_tree::{Attrs, Tag};
@@ -154,16 +156,25 @@ fn begin(view: &View<'_>, level: &OpenBlock, pass: &mut Pass) -> Result<Step>
     Ok(Step::Done)
 }
 
-/// What comes in a block after the constructs that are read at once: one that waits for a block inside, or the block's end.
+/// What comes in a block after blank lines and texts that are read at once: what another construct leads to, or the block's end.
 #[tactic(auto, using(rst_block_state::proofs::Views::few_lines, crate::proofs::Stack::next_of_step))]
 fn next(view: &View<'_>, level: &mut OpenBlock, pass: &mut Pass) -> Result<Step>
     ensures next { IfOk result (λ s. spec.IsNext (block_of view.now) level.old.at level.new.at s) }
     ensures goes { ContinuesFrom (block_of view.now) level.old Next pass.old level.new pass.new result }
 {
     while level.at < view.len() {
-        match step_at(view, level, pass)? {
-            Step::Next => {}
-            step => return Ok(step),
+        let at = level.at;
+        match begun_at(view, at, &mut pass.looks) {
+            Begun::Blank => {
+                level.go_to(lines_end(view, at + 1, LineTest::Blank, &mut pass.looks));
+            }
+            Begun::Text => match text_form_at(view, at, &mut pass.looks) {
+                TextForm::Definition => {
+                    return definition(view, level, Vec::new(pass.alloc), pass);
+                }
+                form => title_or_paragraph(view, level, Vec::new(pass.alloc), form, pass)?,
+            },
+            begun => return marked_step(view, level, begun, pass),
         }
     }
     level.close(view, pass)?;

@@ -1,11 +1,8 @@
 //! One step: the construct at the next line of a block.
-ghost use Rattle.std.specs.Prelude.{◌≢◌, ◌<◌, length, IfOk};
+ghost use Rattle.std.specs.Prelude.{◌≢◌};
 ghost use Rattle.rst_text.specs.ViewBlock.{block_of};
 ghost use Rattle.rst_markup_blocks.specs.declared.begun.Begun.TheVariants.{Blank, Text};
-ghost use Rattle.rst_block_state.specs.machine.Steps as spec;
-ghost use Rattle.rst_block.specs.Reading.{ContinuesFrom};
 ghost use Rattle.rst_block_body.specs.ReadSteps.{BeginsAt, IsReadStep};
-ghost use Rattle.rst_block_state.specs.declared.step.Step.TheVariants.{Next};
 
 use rst_block_body::adornment::adornment;
 use rst_block_body::field::field;
@@ -15,34 +12,15 @@ use rst_block_body::option::option_item;
 use rst_block_body::paragraph::doctest_block;
 use rst_block_body::quote::block_quote;
 use rst_block_body::table::table;
-use rst_block_body::text::text_line;
 use rst_block_markup::explicit_markup;
 use rst_block_state::{OpenBlock, Pass, Result, Step};
-use rst_markup_blocks::{Begun, LineTest, begun_at, lines_end};
+use rst_markup_blocks::Begun;
 use rst_markup_tables::{grid, simple};
 use rst_text::View;
 
-/// Reads the construct at the next line.
-#[inline(always)]
-pub(crate) fn step_at(view: &View<'_>, level: &mut OpenBlock, pass: &mut Pass) -> Result<Step>
-    requires inside { level.old.at < length (block_of view.now) }
-    ensures step { IfOk result (λ s. spec.IsStep (block_of view.now) level.old.at level.new.at s) }
-    ensures goes { ContinuesFrom (block_of view.now) level.old Next pass.old level.new pass.new result }
-{
-    let at = level.at;
-    match begun_at(view, at, &mut pass.looks) {
-        Begun::Blank => {
-            level.go_to(lines_end(view, at + 1, LineTest::Blank, &mut pass.looks));
-            Ok(Step::Next)
-        }
-        Begun::Text => text_line(view, level, Vec::new(pass.alloc), pass),
-        begun => marked_step(view, level, begun, pass),
-    }
-}
-
-/// The same where this begins, neither a blank line nor a text: most lines are one of these, which have little to do with it.
+/// Reads the construct at the next line, where this begins, neither a blank line nor a text.
 #[inline(never)]
-fn marked_step(
+pub(crate) fn marked_step(
     view: &View<'_>,
     level: &mut OpenBlock,
     begun: Begun,

@@ -73,9 +73,9 @@ later_read each {B} {old} {new} {before} {mid} {after} {result} h inside same lo
     }
 
 -- so are those at the line of a text and at the one below it
-pub text_read : {B : Block} {old new : OpenBlock} {before mid after : Pass} {line : ℕ} {result : Result Step BlockFault} → IsReadStep 25 B old mid new after result → old.at < length B → mid.numbers ≡ before.numbers
-    → line ≡ capped (before.looks + 1) → Looked 0 1 line mid.looks → IsReadStep 27 B old before new after result
-text_read h inside same first looked = later_read 25 h inside same (omega (arith, first, looked.0)) (omega (arith, first, looked.1))
+pub text_read : {B : Block} {old new : OpenBlock} {before mid after : Pass} {result : Result Step BlockFault} → IsReadStep 25 B old mid new after result → old.at < length B → mid.numbers ≡ before.numbers
+    → Looked 1 2 before.looks mid.looks → IsReadStep 27 B old before new after result
+text_read h inside same looked = later_read 25 h inside same (omega (arith, looked.0)) (omega (arith, looked.1))
 
 -- and those at the two lines below a line of one punctuation character
 pub adorned_read : {B : Block} {old new : OpenBlock} {before mid after : Pass} {next : ℕ} {result : Result Step BlockFault} (t : List ℕ) → IsReadStep 27 B old mid new after result → old.at < length B → mid.numbers ≡ before.numbers

@@ -1,6 +1,6 @@
 -- Lines of text: what the block gives after a paragraph or a title over its underline.
 use Rattle.std.proofs.Common.{◌≡◌, ℕ, ◌+◌, Bool, List, [], ◌++◌, drop, map, refl, sym, ◌∙◌, ap, subst, append_assoc, append-nil}
-use Rattle.std.specs.Prelude.{◌==◌}
+use Rattle.std.specs.Prelude.{◌==◌, ◌≢◌}
 use Rattle.rst_text.specs.Block.{Block, first_text}
 use Rattle.rst_tree.specs.declared.node.Node.{Node}
 use Rattle.rst_markup_blocks.specs.Conditions.{next_text}
@@ -12,6 +12,7 @@ use Rattle.rst_block_state.specs.Constructs.{paragraph, text_by}
 use Rattle.rst_block_state.specs.Literals.{paragraph_nodes}
 use Rattle.rst_block_state.specs.machine.Meanings.{done_of}
 use Rattle.rst_block_state.specs.machine.NextLine.{IsNextConstruct, IsText}
+use Rattle.rst_block_state.specs.machine.RestLaws.{IsAlone}
 use Rattle.rst_block_state.specs.Nodes.{plainly}
 use Rattle.rst_block_state.specs.Numbered.{Numbered, then_read, just}
 use Rattle.rst_block_state.specs.machine.OpenBlocks.{HasMore, ReadsNodes, ReadsItems}
@@ -30,6 +31,13 @@ use Rattle.rst_block_body.proofs.TextsPaid.{more_items}
 pub form_here : (B : Block) (i : ℕ) {t u : List ℕ} {found form : TextForm} → t ≡ first_text (drop i B) → u ≡ first_text (drop 1 (drop i B)) → found ≡ text_form t u → found ≡ form
     → text_form (first_text (drop i B)) (next_text (drop i B)) ≡ form
 form_here B i {t} {u} e f h is = sym (h ∙ ap (λ x. text_form x u) e ∙ ap (text_form (first_text (drop i B))) f) ∙ is
+
+-- a text that is no term stands alone
+pub alone_form : (form : TextForm) (titles : Bool) (infos : List Node) (X : Block) → form ≢ Definition → IsAlone (text_by form titles infos X)
+alone_form Paragraph titles infos X h = tt
+alone_form ShortUnderline titles infos X h = tt
+alone_form Definition titles infos X h = absurd (h refl)
+alone_form (Title short) titles infos X h = tt
 
 -- a text that is a paragraph comes next, after the messages that explain why it is a text, and that on a short underline
 pub paragraph_next : {l : OpenBlock} {B : Block} {form : TextForm} (infos : List Node) → IsText l B infos → text_form (first_text (drop l.at B)) (next_text (drop l.at B)) ≡ form → (form ≡ Definition → ⊥)

@@ -1,5 +1,5 @@
 -- What a call gives that reads the construct at the next line of a block.
-use Rattle.std.specs.Prelude.{ℕ, ◌<◌, length, drop, Result, IfOk}
+use Rattle.std.specs.Prelude.{ℕ, ◌<◌, length, drop, Result, Ok, Err, IfOk}
 use Rattle.rst_text.specs.Block.{Block}
 use Rattle.rst_markup_blocks.specs.Begun.{IsBegun}
 use Rattle.rst_markup_blocks.specs.declared.begun.Begun.{Begun}
@@ -9,6 +9,7 @@ use Rattle.rst_block_state.specs.machine.Steps.{IsStep}
 use Rattle.rst_block_nodes.specs.declared.fault.BlockFault.{BlockFault}
 use Rattle.rst_block_state.specs.declared.open_block.OpenBlock.{OpenBlock}
 use Rattle.rst_block_state.specs.declared.step.Step.{Step}
+use Rattle.rst_block_state.specs.declared.step.Step.TheVariants.{Next}
 use Rattle.rst_block_state.specs.declared.texts.Pass.{Pass}
 
 -- this begins at the next line
@@ -22,3 +23,8 @@ pub record IsReadStep (each : ℕ) (B : Block) (old : OpenBlock) (before : Pass)
   pub step : IfOk result (λ s. IsStep B old.at new.at s)
   pub read : Keeps result (λ s. comes new B s after.numbers) (reads old B before.numbers)
   pub paid : IfOk result (λ s. IsPaid each old new B s before.looks after.looks)
+
+-- what a call leads to after which the block goes on
+abbrev pub then_next : Result (Unit {0}) BlockFault → Result Step BlockFault
+then_next (Ok _) = Ok Next
+then_next (Err fault) = Err fault

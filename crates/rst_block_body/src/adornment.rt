@@ -14,7 +14,7 @@ ghost use Rattle.rst_block_body.specs.ReadSteps.{BeginsAt, IsReadStep};
 use super::text::text_line;
 use rst_block_nodes::{Style, message};
 use rst_block_state::{
-    OpenBlock, Pass, Result, Step, alone, heading_of, number_at, parts_at, short_warning, source,
+    OpenBlock, Pass, Result, Step, alone, heading_of, number_at, short_warning, source,
 };
 use rst_markup_blocks::{Adorned, adorned_at, below_text};
 use rst_markup_lines::Adornment;
@@ -154,7 +154,7 @@ fn overlined(
     };
     let text = skip(text, indentation(text));
     let line = number_at(view, at + 1);
-    let parts = parts_at(view, at);
+    let parts = view.parts(at);
     let heading = heading_of(parts, style, text, line, warning, lines, pass)?;
     level.go_to(end);
     level.push_heading(pass.alloc, heading)?;

@@ -10,12 +10,12 @@ ghost use Rattle.rst_block_body.specs.ReadSteps.{IsReadStep};
 
 use super::item::{Item, enter_list};
 use rst_block_nodes::term_and_classifiers;
-use rst_block_state::{OpenBlock, Pass, Result, Step, Waits, indented, number_at, parts_at};
+use rst_block_state::{OpenBlock, Pass, Result, Step, Waits, indented, number_at};
 use rst_text::View;
 use rst_tree::{Node, Tag};
 
 /// An item of a definition list. The messages that explain why its term is a text come before the whole list.
-pub(crate) fn definition(
+pub fn definition(
     view: &View<'_>,
     level: &mut OpenBlock,
     infos: Vec<Node>,
@@ -31,7 +31,7 @@ pub(crate) fn definition(
     let body = indented(view, at + 1, &mut pass.looks);
     enter_list(view, level, Item::Definition(infos), body, pass)?;
     let term = view.line(at, &mut pass.looks);
-    let parts = parts_at(view, at);
+    let parts = view.parts(at);
     let heads = term_and_classifiers(pass.alloc, parts, term, line, &mut pass.numbers)?;
     let waits = Waits::ListedBody {
         line,

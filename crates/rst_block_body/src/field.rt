@@ -5,9 +5,7 @@ ghost use Rattle.rst_block_body.specs.ReadSteps.{BeginsAt, IsReadStep};
 
 use super::item::{Item, enter_list};
 use rst_block_nodes::with_text;
-use rst_block_state::{
-    OpenBlock, Pass, Result, Step, Waits, excerpt, hanging, number_at, parts_at,
-};
+use rst_block_state::{OpenBlock, Pass, Result, Step, Waits, excerpt, hanging, number_at};
 use rst_markup_lines::FieldMark;
 use rst_text::View;
 use rst_tree::Tag;
@@ -28,7 +26,7 @@ pub fn field(
     enter_list(view, level, Item::Field(mark), body, pass)?;
     let name = excerpt(pass.alloc, view.line(at, &mut pass.looks), mark.name)?;
     let text = name.as_str();
-    let parts = parts_at(view, at);
+    let parts = view.parts(at);
     let numbers = &mut pass.numbers;
     let name = with_text(pass.alloc, parts, Tag::FieldName, line, text, line, numbers)?;
     let mut heads = Vec::with_capacity(pass.alloc, 2)?;

@@ -2,7 +2,7 @@
 #![tactic(auto, using(rst_block_state::proofs::Views::few_lines))]
 
 pub mod adornment;
-mod definition;
+pub mod definition;
 pub mod field;
 mod item;
 pub mod line;

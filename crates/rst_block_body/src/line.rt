@@ -13,7 +13,7 @@ ghost use Rattle.rst_block_body.specs.ReadSteps.{BeginsAt, IsReadStep};
 use rst_block_nodes::BarText;
 use rst_block_state::{
     OpenBlock, Pass, Result, Run, Step, first_line_or, indented, inside, joined, lines_between,
-    number_at, parts_at,
+    number_at,
 };
 use rst_markup_blocks::indented_end;
 use rst_markup_lines::Marker;
@@ -81,7 +81,7 @@ fn bar_text(
     ensures looked { IfOk result (λ _. Looked 0 (1 + 2 * (end - (at + 1))) pass.old.looks pass.new.looks) }
 {
     let line = number_at(view, at);
-    let parts = parts_at(view, at);
+    let parts = *view.parts(at);
     let below = lines_between(view, at + 1, end);
     let below = inside(&below, indented(&below, 0, &mut pass.looks));
     let further = joined(pass.alloc, &below, &mut pass.looks)?;

@@ -21,7 +21,7 @@ ghost use Rattle.rst_block_body.specs.ReadSteps.{BeginsAt, IsReadStep};
 
 use rst_block_nodes::{message, preserved, with_text};
 use rst_block_state::{
-    OpenBlock, Pass, Result, Step, announced, indented, inside, joined, number_at, parts_at, source,
+    OpenBlock, Pass, Result, Step, announced, indented, inside, joined, number_at, source,
 };
 use rst_markup_blocks::{LineTest, lines_end, text_at};
 use rst_markup_lines::{begins_with, ends_in_colons, first_char, is_blank, is_punctuation};
@@ -105,7 +105,7 @@ fn put_paragraph(
     }
     let alloc = pass.alloc;
     let line = number_at(view, level.at);
-    let parts = parts_at(view, level.at);
+    let parts = view.parts(level.at);
     let numbers = &mut pass.numbers;
     let made = with_text(alloc, parts, Tag::Paragraph, line, text, line, numbers)?;
     level.push(made.element)?;

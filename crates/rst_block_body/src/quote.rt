@@ -15,9 +15,7 @@ ghost use Rattle.rst_block_state.specs.looks.Ledger.{AreQuotesPaid};
 ghost use Rattle.rst_block_body.specs.ReadSteps.{BeginsAt, IsReadStep};
 
 use rst_block_nodes::{Texted, with_text};
-use rst_block_state::{
-    OpenBlock, Pass, Result, Step, Waits, indented, inside, joined, number_at, parts_at,
-};
+use rst_block_state::{OpenBlock, Pass, Result, Step, Waits, indented, inside, joined, number_at};
 use rst_markup_blocks::{Attribution, LineTest, Part, attribution_at, lines_end};
 use rst_text::{Looks, View};
 use rst_tree::Tag;
@@ -137,7 +135,7 @@ fn attribution_text(
     ensures each { IfOk result (λ _. capped (pass.old.looks + (found.end - place)) ≤ pass.new.looks) }
 {
     let line = number_at(lines, place);
-    let parts = parts_at(lines, place);
+    let parts = lines.parts(place);
     let text = inside(
         lines,
         Part {

@@ -1,23 +1,27 @@
 //! Lines of text: titles, items of definition lists and paragraphs.
-ghost use Rattle.std.specs.Prelude.{◌+◌, ◌<◌, ◌==◌, length, drop, IfOk};
+ghost use Rattle.std.specs.Prelude.{◌≡◌, ◌≢◌, ◌+◌, ◌<◌, ◌==◌, length, drop, IfOk};
+ghost use Rattle.rst_text.specs.Block.{first_text};
 ghost use Rattle.rst_text.specs.Looked.{Looked};
 ghost use Rattle.rst_text.specs.ViewBlock.{block_of};
+ghost use Rattle.rst_markup_blocks.specs.Conditions.{next_text};
+ghost use Rattle.rst_markup_blocks.specs.Forms.{text_form};
+ghost use Rattle.rst_markup_blocks.specs.declared.form.TextForm.TheVariants.{Definition};
 ghost use Rattle.rst_block_state.specs.machine.NextLine.{IsText};
 ghost use Rattle.rst_block_state.specs.machine.OpenBlocks.{Gives, ReadsItems, HasMore};
 ghost use Rattle.rst_block_state.specs.Texts.{span_source};
 ghost use Rattle.rst_block_state.specs.Titles as titles;
-ghost use Rattle.rst_block_body.specs.ReadSteps.{IsReadStep};
+ghost use Rattle.rst_block_body.specs.ReadSteps.{IsReadStep, then_next};
 ghost use Rattle.rst_block_body.specs.TextSteps.{form_notes};
 
 use super::definition::definition;
 use super::paragraph::paragraph;
 use rst_block_nodes::{Style, message};
 use rst_block_state::{
-    OpenBlock, Pass, Result, Step, heading_of, number_at, parts_at, short_warning, source,
+    OpenBlock, Pass, Result, Step, heading_of, number_at, short_warning, source,
 };
 use rst_markup_blocks::{TextForm, below_text, text_form};
 use rst_markup_lines::first_char;
-use rst_text::View;
+use rst_text::{Looks, View};
 use rst_tree::{Level, Node};
 use std::alloc::Global;
 
@@ -32,23 +36,50 @@ pub fn text_line(
     requires text { IsText level.old (block_of view.now) infos.items }
     ensures { IsReadStep 27 (block_of view.now) level.old pass.old level.new pass.new result }
 {
-    let at = level.at;
-    let text = view.line(at, &mut pass.looks);
-    let next = below_text(view, at, 1, &mut pass.looks);
-    match text_form(text, next) {
+    match text_form_at(view, level.at, &mut pass.looks) {
         TextForm::Definition => definition(view, level, infos, pass),
-        TextForm::Title { short } => {
-            level.close(view, pass)?;
-            level.append(infos)?;
-            underlined(view, level, short, pass)?;
+        form => {
+            title_or_paragraph(view, level, infos, form, pass)?;
             Ok(Step::Next)
         }
+    }
+}
+
+/// The form of the text at line `at`, by that line and the next one.
+#[inline(always)]
+pub fn text_form_at(view: &View<'_>, at: usize, looks: &mut Looks) -> TextForm
+    requires { at < length (block_of view.now) }
+    ensures form { let X = drop at (block_of view.now) in result ≡ text_form (first_text X) (next_text X) }
+    ensures looked { Looked 1 2 looks.old looks.new }
+{
+    let text = view.line(at, looks);
+    let next = below_text(view, at, 1, looks);
+    text_form(text, next)
+}
+
+/// The title or the paragraph that a text of this form is, after messages that explain why it is one. The block goes on after it.
+// Most lines are read here: what other constructs need has no place in its frame and in its result.
+#[inline(never)]
+pub fn title_or_paragraph(
+    view: &View<'_>,
+    level: &mut OpenBlock,
+    infos: Vec<Node>,
+    form: TextForm,
+    pass: &mut Pass,
+) -> Result<()>
+    requires inside { level.old.at < length (block_of view.now) }
+    requires text { IsText level.old (block_of view.now) infos.items }
+    requires form { let X = drop level.old.at (block_of view.now) in text_form (first_text X) (next_text X) ≡ form }
+    requires flat { form ≢ Definition }
+    ensures { IsReadStep 25 (block_of view.now) level.old pass.old level.new pass.new (then_next result) }
+{
+    level.close(view, pass)?;
+    level.append(infos)?;
+    match form {
+        TextForm::Title { short } => Ok(underlined(view, level, short, pass)?),
         form => {
-            level.close(view, pass)?;
-            level.append(infos)?;
             put_short_underline(pass.alloc, view, level, form)?;
-            paragraph(view, level, pass)?;
-            Ok(Step::Next)
+            Ok(paragraph(view, level, pass)?)
         }
     }
 }
@@ -94,7 +125,7 @@ fn underlined(view: &View<'_>, level: &mut OpenBlock, short: bool, pass: &mut Pa
             overlined: false,
         };
         let text = view.line(at, &mut pass.looks);
-        let parts = parts_at(view, at);
+        let parts = view.parts(at);
         let line = number_at(view, at);
         let heading = heading_of(parts, style, text, line, warning, lines, pass)?;
         level.go_to(at + 2);

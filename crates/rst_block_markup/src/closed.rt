@@ -16,7 +16,7 @@ use super::directive::Found;
 use rst_block_nodes::{
     BarText, append, formulas, image, line_block, literal_block, with_options, with_text,
 };
-use rst_block_state::{DEEPEST, Pass, Result, alone, inside, joined, number_at, parts_at};
+use rst_block_state::{DEEPEST, Pass, Result, alone, inside, joined, number_at};
 use rst_markup_directives::{Argument, Content, ContentKind};
 use rst_markup_lines::is_blank;
 use rst_settings::Parts;
@@ -45,7 +45,7 @@ pub(crate) fn closed_nodes(
     match found.kind.content {
         ContentKind::Marked => {
             let text = content_text(alloc, view, found.content, &mut pass.looks)?;
-            text_element(found, parts_at(view, 0), line, true, text.as_str(), pass)
+            text_element(found, view.parts(0), line, true, text.as_str(), pass)
         }
         ContentKind::Verse => verse(view, depth, found, pass),
         ContentKind::Formulas => {
@@ -70,7 +70,7 @@ fn closed_by(view: &View<'_>, line: usize, found: &Found, pass: &mut Pass) -> Re
     match &found.argument {
         Argument::Title(title) => {
             let text = joined(alloc, &inside(view, *title), &mut pass.looks)?;
-            text_element(found, parts_at(view, 0), line, false, text.as_str(), pass)
+            text_element(found, view.parts(0), line, false, text.as_str(), pass)
         }
         _ => {
             let element = closed_element(alloc, view, line, found, None, &mut pass.looks)?;
@@ -109,14 +109,14 @@ pub(crate) fn closed_element(
 /// The element of a directive that holds a text with inline markup, and the messages on the text.
 fn text_element(
     found: &Found,
-    parts: Parts,
+    parts: &Parts,
     line: usize,
     literal: bool,
     text: &str,
     pass: &mut Pass,
 ) -> Result<Vec<Node>>
     ensures read { let read = read_of_directive found.now in
-        Gives (HoldsNodes (marked_text literal read parts line (chars text.now)) pass.old.numbers pass.new.numbers) result }
+        Gives (HoldsNodes (marked_text literal read parts.now line (chars text.now)) pass.old.numbers pass.new.numbers) result }
     ensures looks { pass.new.looks ≡ pass.old.looks }
 {
     let alloc = pass.alloc;
@@ -193,7 +193,7 @@ fn line_of_text(
         line,
         text_line: line,
         text: String::from_str(alloc, skip(text, white))?,
-        parts: view.parts(at),
+        parts: *view.parts(at),
     })
 }
 

@@ -30,7 +30,7 @@ use rst_block_nodes::{
 };
 use rst_block_state::{
     OpenBlock, Pass, Result, Step, Waits, alone, excerpt, first_line_or, inside, joined, number_at,
-    parts_at, source,
+    source,
 };
 use rst_markup_blocks::{Invocation, Part};
 use rst_markup_directives::{
@@ -82,7 +82,7 @@ fn is_handed(view: &View<'_>, at: usize, invocation: &Invocation, pass: &mut Pas
     ensures numbers { pass.new.numbers ≡ pass.old.numbers }
     ensures looked { IfOk result (λ _. Looked 0 1 pass.old.looks pass.new.looks) }
 {
-    let parts = parts_at(view, at);
+    let parts = view.parts(at);
     if parts.handed.is_none() {
         return Ok(false);
     }
@@ -271,7 +271,7 @@ fn titled_start(lines: &View<'_>, line: usize, found: &Found, pass: &mut Pass) -
     let element = found.kind.element;
     let options = found.options.as_slice();
     let title_line = first_line_or(lines, line);
-    let parts = parts_at(lines, 0);
+    let parts = lines.parts(0);
     let text = joined(alloc, lines, &mut pass.looks)?;
     let text = text.as_str();
     let numbers = &mut pass.numbers;

@@ -26,7 +26,7 @@ use super::directive::directive_block;
 use super::substitution::substitution_definition;
 use rst_block_nodes::{citation, footnote, message, preserved, target};
 use rst_block_state::{
-    OpenBlock, Pass, Result, Run, Step, Waits, excerpt, inside, joined, number_at, parts_at,
+    OpenBlock, Pass, Result, Run, Step, Waits, excerpt, inside, joined, number_at,
 };
 use rst_markup_blocks::{CommentCause, Explicit, Part, explicit};
 use rst_markup_lines::{Characters, LabelKind};
@@ -161,7 +161,7 @@ fn target_block(
     let alloc = pass.alloc;
     let lines = joined(alloc, &inside(view, text), &mut pass.looks)?;
     let line = number_at(view, level.at);
-    let mail = parts_at(view, level.at).mail;
+    let mail = view.parts(level.at).mail;
     let element = match name {
         Some(name) => {
             let name = excerpt(alloc, view.line(level.at, &mut pass.looks), name)?;

@@ -82,12 +82,12 @@ fn title_class(alloc: Global, title: &Node) -> Result<Value>
 /// The only refusal is [`AllocError`].
 pub fn subtitle(
     alloc: Global,
-    parts: Parts,
+    parts: &Parts,
     options: &[Setting],
     line: usize,
     numbers: &mut Numbers,
 ) -> Result<Heads>
-    ensures { IfOk result (λ made. subtitled parts (subtitle_chosen (choices_in options.now)) line numbers.old ≡ Ok ((made.heads.items, made.notes.items), numbers.new)) }
+    ensures { IfOk result (λ made. subtitled parts.now (subtitle_chosen (choices_in options.now)) line numbers.old ≡ Ok ((made.heads.items, made.notes.items), numbers.new)) }
 {
     let mut heads = Vec::new(alloc);
     let Some(text) = subtitle_text(options) else {

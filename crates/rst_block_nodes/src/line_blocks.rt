@@ -126,7 +126,7 @@ fn block_of(
         if run == 0 {
             let text = bar.text.as_str();
             let (line, text_line) = (bar.line, bar.text_line);
-            let mut made = with_text(alloc, bar.parts, Tag::Line, line, text, text_line, numbers)?;
+            let mut made = with_text(alloc, &bar.parts, Tag::Line, line, text, text_line, numbers)?;
             nodes.push(made.element)?;
             notes.append(&mut made.notes)?;
             place += 1;

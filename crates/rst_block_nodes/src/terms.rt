@@ -30,14 +30,14 @@ pub struct Heads {
 #[tactic(auto, using(crate::proofs::MessageLemmas::messages_from_length))]
 pub fn term_and_classifiers(
     alloc: Global,
-    parts: Parts,
+    parts: &Parts,
     text: &str,
     line: usize,
     numbers: &mut Numbers,
 ) -> Result<Heads>
-    ensures text { IfOk result (HeadsText parts (chars text.now) line numbers.old) }
+    ensures text { IfOk result (HeadsText parts.now (chars text.now) line numbers.old) }
     ensures numbers { IfOk result (λ made. numbers.new ≡ counted_on numbers.old (length made.notes.items)) }
-    ensures read { IfOk result (λ made. termed parts (chars text.now) line numbers.old ≡ Ok ((made.heads.items, made.notes.items), numbers.new)) }
+    ensures read { IfOk result (λ made. termed parts.now (chars text.now) line numbers.old ≡ Ok ((made.heads.items, made.notes.items), numbers.new)) }
 {
     let characters = characters_of(alloc, text)?;
     let pieces = pieces_of(alloc, parts.mail, &characters)?;

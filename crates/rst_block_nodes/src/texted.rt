@@ -27,16 +27,16 @@ pub struct Texted {
 #[tactic(auto, using(crate::proofs::MessageLemmas::messages_from_length))]
 pub fn with_text(
     alloc: Global,
-    parts: Parts,
+    parts: &Parts,
     tag: Tag,
     line: usize,
     text: &str,
     text_line: usize,
     numbers: &mut Numbers,
 ) -> Result<Texted>
-    ensures text { IfOk result (HoldsText parts tag line (chars text.now) text_line numbers.old) }
+    ensures text { IfOk result (HoldsText parts.now tag line (chars text.now) text_line numbers.old) }
     ensures numbers { IfOk result (λ read. numbers.new ≡ counted_on numbers.old (length read.notes.items)) }
-    ensures read { IfOk result (λ made. texted parts tag line (chars text.now) text_line numbers.old ≡ Ok ((made.element, made.notes.items), numbers.new)) }
+    ensures read { IfOk result (λ made. texted parts.now tag line (chars text.now) text_line numbers.old ≡ Ok ((made.element, made.notes.items), numbers.new)) }
 {
     let first = numbers.given();
     let Pieces { nodes, notes } = inline_from(alloc, parts, text, text_line, first)?;

@@ -12,7 +12,7 @@ use std::alloc::{AllocError, Global};
 
 /// A title with this text, and no nodes before it.
 pub fn heading_of(
-    parts: Parts,
+    parts: &Parts,
     style: Style,
     text: &str,
     line: usize,
@@ -20,7 +20,7 @@ pub fn heading_of(
     source: String,
     pass: &mut Pass,
 ) -> Result<Heading, AllocError>
-    ensures title { IfOk result (λ heading. title_item parts style (chars text.now) line warning (string_bytes source) pass.old.numbers
+    ensures title { IfOk result (λ heading. title_item parts.now style (chars text.now) line warning (string_bytes source) pass.old.numbers
         ≡ Ok (titled (title_of heading) ∷ [], pass.new.numbers)) }
     ensures looks { pass.new.looks ≡ pass.old.looks }
 {

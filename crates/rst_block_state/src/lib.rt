@@ -25,6 +25,6 @@ pub use run::{DEEPEST, ListKind, OpenList, Run, Sequel};
 pub use step::Step;
 pub use texts::{
     Pass, alone, characters, excerpt, excerpt_after, first_line_or, joined, lines_between,
-    number_at, parts_at, push, source, split_nodes,
+    number_at, push, source, split_nodes,
 };
 pub use waits::{OpenReplacement, Waits};

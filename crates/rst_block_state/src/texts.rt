@@ -1,14 +1,12 @@
 //! Texts of lines, and what a document is read with.
 ghost use Rattle.std.specs.Prelude.{◌≡◌, ◌+◌, ◌-◌, ◌<◌, ◌≤◌, [], ◌∷◌, ◌++◌, length, take, drop, slice_range, string_bytes, encode_utf8_all, IfOk, chars};
 ghost use Rattle.rst_markup_blocks.specs.Prelude.{first_number, capped, block_of};
-ghost use Rattle.rst_text.specs.Block.{first_parts};
 ghost use Rattle.rst_text.specs.Text.{chars_of};
 ghost use Rattle.rst_block_state.specs.LineRuns.{number_or};
 ghost use Rattle.rst_block_state.specs.Texts as spec;
 
 use rst_block_nodes::Numbers;
 use rst_markup_lines::Characters;
-use rst_settings::Parts;
 use rst_text::{Looks, View, skip};
 use rst_tree::Node;
 use rst_tree_index::{MarkedIter, MarkedNodes};
@@ -121,16 +119,6 @@ pub fn number_at(view: &View<'_>, place: usize) -> usize
     } else {
         0
     }
-}
-
-/// The parts of the wider profile that hold in the line at a place, or none where there is no line.
-pub fn parts_at(view: &View<'_>, place: usize) -> Parts
-    ensures { result ≡ first_parts (drop place (block_of view.now)) }
-{
-    if view.len() <= place {
-        return Parts::NONE;
-    }
-    view.parts(place)
 }
 
 /// The number of the first of some lines, or another where there are none.

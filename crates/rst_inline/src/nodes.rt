@@ -23,8 +23,8 @@ pub struct Pieces {
 /// Markup'), by the parts of the wider profile that hold in it. Every text has some. The messages are numbered from 0 on.
 ///
 /// The only refusal is [`AllocError`].
-pub fn inline(alloc: Global, parts: Parts, text: &str, line: usize) -> Result<Pieces>
-    ensures { IfOk result (IsRead parts (chars text.now) line 0) }
+pub fn inline(alloc: Global, parts: &Parts, text: &str, line: usize) -> Result<Pieces>
+    ensures { IfOk result (IsRead parts.now (chars text.now) line 0) }
 {
     inline_from(alloc, parts, text, line, 0)
 }
@@ -34,12 +34,12 @@ pub fn inline(alloc: Global, parts: Parts, text: &str, line: usize) -> Result<Pi
 /// The only refusal is [`AllocError`].
 pub fn inline_from(
     alloc: Global,
-    parts: Parts,
+    parts: &Parts,
     text: &str,
     line: usize,
     first: u64,
 ) -> Result<Pieces>
-    ensures { IfOk result (IsRead parts (chars text.now) line first) }
+    ensures { IfOk result (IsRead parts.now (chars text.now) line first) }
 {
     // A quiet text is one plain piece, so it is neither made characters nor scanned.
     if is_quiet(parts.mail, text.as_bytes()) {
@@ -61,7 +61,7 @@ impl Written<'_> {
     #[inline(never)]
     fn read(&self, pieces: &[Piece], first: u64) -> Result<Pieces>
         requires { All (IsWithin self.now.characters.items) pieces.now }
-        ensures { IfOk result (AreReadFromPieces self.now.parts self.now.characters.items self.now.line first pieces.now) }
+        ensures { IfOk result (AreReadFromPieces self.now.parts.now self.now.characters.items self.now.line first pieces.now) }
     {
         // A phrase reference may give two nodes, the second a target.
         let phrases = pieces

@@ -148,7 +148,7 @@ impl Written<'_> {
     /// What an embedded URI or alias between two places refers to.
     fn meant(&self, low: usize, high: usize) -> Result<CowStr<'_, Global>, AllocError>
         requires { high ≤ length self.now.characters.items }
-        ensures { IfOk result (λ meaning. chars (cow_str_bytes meaning) ≡ meant self.now.parts.mail (part self.now.characters.items low high)) }
+        ensures { IfOk result (λ meaning. chars (cow_str_bytes meaning) ≡ meant self.now.parts.now.mail (part self.now.characters.items low high)) }
     {
         let enclosed = part(&self.characters, low, high);
         if is_alias(enclosed) {
@@ -173,7 +173,7 @@ impl Written<'_> {
         requires within { IsWithin self.now.characters.items piece }
         requires phrase { phrase.now ≡ content self.now.characters.items piece }
         requires place { place + 2 < length phrase.now }
-        ensures { IfOk result (λ display_text. chars (cow_str_bytes display_text) ≡ phrase_display_text self.now.parts.mail phrase.now place) }
+        ensures { IfOk result (λ display_text. chars (cow_str_bytes display_text) ≡ phrase_display_text self.now.parts.now.mail phrase.now place) }
     {
         if place == 0 {
             return self.meant(piece.content_from + 1, piece.content_to - 1);
@@ -224,7 +224,7 @@ impl Written<'_> {
     /// A phrase that is a reference.
     fn phrase(&self, suffix: Suffix, piece: Piece) -> Result<Meaning>
         requires { IsWithin self.now.characters.items piece }
-        ensures { IfOk result (λ reading. reading ≡ phrase_reading self.now.parts.mail suffix (source self.now.characters.items piece) (content self.now.characters.items piece) self.now.line) }
+        ensures { IfOk result (λ reading. reading ≡ phrase_reading self.now.parts.now.mail suffix (source self.now.characters.items piece) (content self.now.characters.items piece) self.now.line) }
     {
         let source = self.part(piece.from, piece.to);
         let phrase = part(&self.characters, piece.content_from, piece.content_to);
@@ -259,7 +259,7 @@ impl Written<'_> {
     /// Interpreted text with a role.
     #[tactic(auto, using(crate::proofs::TextLemmas::spelled_again))]
     fn with_role(&self, name: &str, piece: Piece) -> Result<Meaning>
-        ensures { IfOk result (λ reading. let cs = self.now.characters.items in reading ≡ role_reading self.now.parts (chars name.now) (source cs piece) (content cs piece) self.now.line) }
+        ensures { IfOk result (λ reading. let cs = self.now.characters.items in reading ≡ role_reading self.now.parts.now (chars name.now) (source cs piece) (content cs piece) self.now.line) }
     {
         if self.parts.hands_role(name) {
             return self.handed_role(name, piece);
@@ -290,7 +290,7 @@ impl Written<'_> {
     #[inline(never)]
     fn interpreted(&self, suffix: Suffix, piece: Piece) -> Result<Meaning>
         requires { IsWithin self.now.characters.items piece }
-        ensures { IfOk result (λ reading. reading ≡ interpreted_reading self.now.parts (has_prefix_role piece) suffix self.now.characters.items piece self.now.line) }
+        ensures { IfOk result (λ reading. reading ≡ interpreted_reading self.now.parts.now (has_prefix_role piece) suffix self.now.characters.items piece self.now.line) }
     {
         // A role comes first.
         if piece.from + 1 < piece.content_from {
@@ -405,7 +405,7 @@ impl Written<'_> {
     #[inline(always)]
     pub(crate) fn reading(&self, piece: Piece) -> Result<Meaning>
         requires { IsWithin self.now.characters.items piece }
-        ensures { IfOk result (λ read. read ≡ reading self.now.parts self.now.characters.items self.now.line piece) }
+        ensures { IfOk result (λ read. read ≡ reading self.now.parts.now self.now.characters.items self.now.line piece) }
     {
         match piece.kind {
             Kind::Plain => match self.plain(piece)? {

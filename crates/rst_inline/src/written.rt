@@ -19,7 +19,7 @@ pub(crate) struct Written<'a> {
     pub(crate) alloc: Global,
     pub(crate) line: usize,
     /// The parts of the wider profile that hold in the text.
-    pub(crate) parts: Parts,
+    pub(crate) parts: &'a Parts,
     text: &'a str,
     pub(crate) characters: Vec<char>,
     /// Where they begin ([`with_starts`]).
@@ -58,13 +58,13 @@ impl<'a> Written<'a> {
     /// A text whose first line has the number `line`.
     pub(crate) fn of(
         alloc: Global,
-        parts: Parts,
+        parts: &'a Parts,
         text: &'a str,
         line: usize,
     ) -> Result<Written<'a>, AllocError>
         ensures text { IfOk result (λ written. written.characters.items ≡ chars text.now) }
         ensures line { IfOk result (λ written. written.line ≡ line) }
-        ensures parts { IfOk result (λ written. written.parts ≡ parts) }
+        ensures parts { IfOk result (λ written. written.parts.now ≡ parts.now) }
     {
         let (characters, starts) = with_starts(alloc, text)?;
         let escapes = text.as_bytes().contains(&b'\\');
@@ -81,7 +81,7 @@ impl<'a> Written<'a> {
 
     /// The pieces of the text.
     pub(crate) fn pieces(&self) -> Result<Vec<Piece>, AllocError>
-        ensures { IfOk result (λ pieces. IsPieces self.now.parts.mail self.now.characters.items 0 pieces.items) }
+        ensures { IfOk result (λ pieces. IsPieces self.now.parts.now.mail self.now.characters.items 0 pieces.items) }
     {
         if self.starts.is_empty() {
             pieces_of_ascii(

@@ -6,12 +6,13 @@ use rst_text::is_white;
 use unicode::properties::GeneralCategory;
 
 /// Whether the character may occur before a start.
-#[tactic(auto, unfolding(crate::specs::Characters::may_precede_start))]
+#[tactic(auto, unfolding(crate::specs::Characters::may_precede_start, rst_text::specs::Characters::is_white))]
 pub(crate) fn may_precede_start(c: char) -> bool
     ensures { result ≡ may_precede_start c }
 {
     match c {
-        '-' | ':' | '/' | '\'' | '"' | '<' | '(' | '[' | '{' => true,
+        // A space, the most frequent, is tested with the others.
+        ' ' | '-' | ':' | '/' | '\'' | '"' | '<' | '(' | '[' | '{' => true,
         _ => is_white(c)
             || (!c.is_ascii()
                 && matches!(
@@ -26,7 +27,7 @@ pub(crate) fn may_precede_start(c: char) -> bool
 }
 
 /// Whether an end may occur before the place: at the text's end, or before a character that may follow an end.
-#[tactic(auto, unfolding(crate::specs::Characters::may_follow))]
+#[tactic(auto, unfolding(crate::specs::Characters::may_follow, rst_text::specs::Characters::is_white))]
 pub(crate) fn is_free_after(text: &[char], place: usize) -> bool
     ensures { result ≡ is_free_after text.now place }
 {
@@ -35,6 +36,8 @@ pub(crate) fn is_free_after(text: &[char], place: usize) -> bool
     }
     let c = text[place];
     match c {
+        // A space, the most frequent, is tested with the others.
+        ' ' => true,
         '\'' | '"' | ')' | ']' | '}' | '>' | '-' | '/' | '\\' | ':' | '.' | ',' | ';' | '!' | '?' =>
             { true }
         _ => is_white(c)

@@ -1,5 +1,5 @@
 //! Inline markup between a start-string and an end-string.
-ghost use Rattle.std.specs.Prelude.{◌≡◌, ℕ, ◌+◌, ◌<◌, ◌≤◌, true, Some, length, option_map, IfSome};
+ghost use Rattle.std.specs.Prelude.{◌≡◌, ◌≢◌, ℕ, ◌+◌, ◌<◌, ◌≤◌, true, Some, length, option_map, IfSome, slice_index};
 ghost use Rattle.std.specs.Option.{is_some};
 ghost use Rattle.rst_inline_scan.specs.Marked.{start_len, end_len, mark, has_start, start_of, starts, tail_of, ends, markup_end, marked};
 ghost use Rattle.rst_text.specs.Escapes.{is_escaped};
@@ -11,6 +11,24 @@ use super::names::role_end;
 use super::piece::{Kind, Markup, Piece, Suffix, Tail};
 use super::tails::name_tail;
 use rst_text::{escapes, has, is_dark};
+
+/// The least place from `from` on that holds the mark or a backslash, or the text's end.
+// Not inlined: its callers need all registers, and its loop would run in memory.
+#[inline(never)]
+fn next_mark(text: &[char], from: usize, mark: char) -> usize
+    requires { from ≤ length text.now }
+    ensures above { from ≤ result }
+    ensures within { result ≤ length text.now }
+    ensures unmarked { (k : ℕ) → from ≤ k → k < result → slice_index text.now k ≢ mark }
+    ensures bare { (k : ℕ) → from ≤ k → k < result → slice_index text.now k ≢ 92 }
+{
+    for at in from..text.len() {
+        if text[at] == mark || text[at] == '\\' {
+            return at;
+        }
+    }
+    text.len()
+}
 
 impl Markup {
     /// How many characters the start-string has.
@@ -60,7 +78,7 @@ impl Markup {
     }
 
     /// Where the start-string of markup that begins at the place is.
-    #[tactic(auto, unfolding(crate::specs::Marked::start_of))]
+    #[tactic(auto, unfolding(crate::specs::Marked::start_of, crate::specs::Names::role_end))]
     fn start(self, text: &[char], place: usize) -> usize
         requires { place < length text.now }
         ensures exact { result ≡ start_of self text.now place }
@@ -68,7 +86,7 @@ impl Markup {
         ensures below { result ≤ length text.now }
     {
         match self {
-            Markup::Interpreted => match role_end(text, place) {
+            Markup::Interpreted if text[place] == ':' => match role_end(text, place) {
                 Some(end) => end,
                 None => place,
             },
@@ -154,13 +172,17 @@ impl Markup {
         let mark = self.mark();
         let open = start + self.start_len();
         let mut escaped = false;
-        for at in start + 1..text.len() {
+        let mut at = next_mark(text, start + 1, mark);
+        while at < text.len() {
             if text[at] == mark && open < at {
                 if let Some(tail) = self.ending(text, at, escaped) {
                     return Some((at, tail));
                 }
             }
-            escaped = escapes(text[at], escaped);
+            let escapes_next = escapes(text[at], escaped);
+            let next = next_mark(text, at + 1, mark);
+            escaped = escapes_next & (at + 1 == next);
+            at = next;
         }
         None
     }

@@ -95,10 +95,10 @@ pub fn begun_at(view: &View<'_>, at: usize, looks: &mut Looks) -> Begun
 /// What begins at a line that isn't blank, with these parts, before the next two: the first row of the table of constructs whose condition holds.
 #[inline(never)]
 #[tactic(auto, using(crate::proofs::KindRows::bullet_is))]
-fn begun_by(parts: Parts, text: &str, next: &str, after: &str) -> Begun
+fn begun_by(parts: &Parts, text: &str, next: &str, after: &str) -> Begun
     requires { is_blank (chars text.now) ≡ false }
-    ensures kind { (X : Block) → first_parts X ≡ parts → first_text X ≡ chars text.now → next_text X ≡ chars next.now → after_text X ≡ chars after.now → spec.kind_in result ≡ kind_at X }
-    ensures mark { spec.IsMarked parts (chars text.now) (chars next.now) (chars after.now) result }
+    ensures kind { (X : Block) → first_parts X ≡ parts.now → first_text X ≡ chars text.now → next_text X ≡ chars next.now → after_text X ≡ chars after.now → spec.kind_in result ≡ kind_at X }
+    ensures mark { spec.IsMarked parts.now (chars text.now) (chars next.now) (chars after.now) result }
 {
     if begins_with(' ', text) {
         return Begun::Quote;

@@ -102,7 +102,7 @@ fn read(
     ensures looked { Looked 0 (1 + (block.to - block.from)) looks.old looks.new }
 {
     let lines = view.part(block.from, block.to, block.first_cut, block.rest_cut);
-    let parts = first_parts(&lines);
+    let parts = lines.parts(0);
     let text = kind.content.is_text();
     let none = late && (text || parts.unmarked);
     let run = run_of(alloc, none, &lines, looks)?;
@@ -110,21 +110,11 @@ fn read(
     read_run(alloc, parts, kind, block, &run, rest)
 }
 
-/// The parts of the wider profile that hold in the first line of a view; none where there is no line.
-fn first_parts(lines: &View<'_>) -> Parts
-    ensures { result ≡ first_parts (block_of lines.now) }
-{
-    if lines.len() == 0 {
-        return Parts::NONE;
-    }
-    lines.parts(0)
-}
-
 /// Reads a block by its first run of lines; `rest` is the place of the first line after it that isn't blank.
 #[tactic(auto, using(crate::proofs::FieldLemmas::texts_take, crate::proofs::FieldLemmas::texts_after), unfolding(crate::specs::Directive::directive_by_layout))]
 fn read_run(
     alloc: Global,
-    parts: Parts,
+    parts: &Parts,
     kind: Kind,
     block: Part,
     run: &[&str],
@@ -133,7 +123,7 @@ fn read_run(
     requires ordered { block.from ≤ block.to }
     requires run { length run.now ≤ block.to - block.from }
     requires rest { rest ≤ block.to - block.from }
-    ensures { IfOk result (λ reading. directives.reading_in reading ≡ directives.directive_by_layout parts kind block (block.to - block.from) (texts_of run.now) (layouts.layout_at parts kind (texts_of run.now) (block.to - block.from) rest)) }
+    ensures { IfOk result (λ reading. directives.reading_in reading ≡ directives.directive_by_layout parts.now kind block (block.to - block.from) (texts_of run.now) (layouts.layout_at parts.now kind (texts_of run.now) (block.to - block.from) rest)) }
 {
     let all = block.to - block.from;
     let layout = layout_of(parts, kind, run, all, rest);

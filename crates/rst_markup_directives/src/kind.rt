@@ -181,8 +181,8 @@ pub fn is_wider_directive(name: &str) -> bool
 impl Kind {
     /// The kind of the directive that a text names, without regard to the case of letters of ASCII, if its part is on.
     #[tactic(auto, unfolding(crate::specs::Kind::directive_named))]
-    pub(crate) fn of(parts: Parts, text: &[char]) -> Option<Kind>
-        ensures { result ≡ spec.directive_named parts text.now true }
+    pub(crate) fn of(parts: &Parts, text: &[char]) -> Option<Kind>
+        ensures { result ≡ spec.directive_named parts.now text.now true }
     {
         let (part, kind) = lookup(text, &DIRECTIVES, false)?;
         if part.is_on(parts) { Some(kind) } else { None }
@@ -198,8 +198,8 @@ impl PartName {
     }
 
     /// Whether the part is on.
-    fn is_on(self, parts: Parts) -> bool
-        ensures { result ≡ spec.is_on parts true self }
+    fn is_on(self, parts: &Parts) -> bool
+        ensures { result ≡ spec.is_on parts.now true self }
     {
         match self {
             PartName::Usual | PartName::Code => true,

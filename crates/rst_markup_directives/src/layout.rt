@@ -20,8 +20,8 @@ pub(crate) struct Layout {
 
 /// How many of some lines come before the first that begins a field.
 #[tactic(auto, unfolding(crate::specs::Layout::begins_field))]
-fn before_field(parts: Parts, run: &[&str]) -> usize
-    ensures value { result ≡ spec.before_field parts (texts_of run.now) }
+fn before_field(parts: &Parts, run: &[&str]) -> usize
+    ensures value { result ≡ spec.before_field parts.now (texts_of run.now) }
     ensures within { result ≤ length run.now }
 {
     for (i, line) in run.iter().enumerate() {
@@ -35,8 +35,8 @@ fn before_field(parts: Parts, run: &[&str]) -> usize
 /// The parts of a block of `all` lines that begins with this run, up to a blank line; `rest` is the place of the first line
 /// after the run that isn't blank.
 #[tactic(auto, unfolding(crate::specs::Layout::layout_at))]
-pub(crate) fn layout_of(parts: Parts, kind: Kind, run: &[&str], all: usize, rest: usize) -> Layout
-    ensures value { result ≡ spec.layout_at parts kind (texts_of run.now) all rest }
+pub(crate) fn layout_of(parts: &Parts, kind: Kind, run: &[&str], all: usize, rest: usize) -> Layout
+    ensures value { result ≡ spec.layout_at parts.now kind (texts_of run.now) all rest }
     ensures argument { result.argument ≤ length run.now }
     ensures options { result.options ≤ length run.now }
     ensures first { length run.now ≤ all → result.first ≤ all }
@@ -78,8 +78,8 @@ fn content_alone(run: &[&str], all: usize) -> Layout
 
 /// A block without an argument, whose lines before the options are content.
 #[tactic(auto, using(crate::proofs::FieldLemmas::length_texts))]
-fn parts_without_argument(parts: Parts, run: &[&str], all: usize, rest: usize) -> Layout
-    ensures value { result ≡ spec.parts_without_argument parts (texts_of run.now) all rest }
+fn parts_without_argument(parts: &Parts, run: &[&str], all: usize, rest: usize) -> Layout
+    ensures value { result ≡ spec.parts_without_argument parts.now (texts_of run.now) all rest }
     ensures options { result.options ≤ length run.now }
     ensures first { length run.now ≤ all → result.first ≤ all }
     ensures second { rest ≤ all → result.second ≤ all }

@@ -92,10 +92,10 @@ pub(crate) fn excerpt(
 /// one.
 pub(crate) fn fields_of(
     alloc: Global,
-    parts: Parts,
+    parts: &Parts,
     run: &[&str],
 ) -> Result<Option<Vec<Field>>, AllocError>
-    ensures { IfOk result (λ fields. option_map (λ v. spec.field_texts v.items) fields ≡ spec.fields_in parts (texts_of run.now)) }
+    ensures { IfOk result (λ fields. option_map (λ v. spec.field_texts v.items) fields ≡ spec.fields_in parts.now (texts_of run.now)) }
 {
     let mut fields = Vec::new(alloc);
     let mut i = 0;

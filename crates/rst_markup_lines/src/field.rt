@@ -20,8 +20,8 @@ pub struct FieldMark {
 /// after it. The name isn't empty, doesn't begin with a space or a colon, and doesn't end with a space. With the part
 /// `marks` it has no unescaped colon directly before a backquote: a line with such a colon begins with a role.
 #[tactic(auto, unfolding(crate::specs::Field::field_of))]
-pub fn field_of(parts: Parts, text: &str) -> Option<FieldMark>
-    ensures { result ≡ spec.field_of parts (chars text.now) }
+pub fn field_of(parts: &Parts, text: &str) -> Option<FieldMark>
+    ensures { result ≡ spec.field_of parts.now (chars text.now) }
 {
     if !begins_with(':', text) {
         return None;

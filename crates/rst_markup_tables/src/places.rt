@@ -112,7 +112,7 @@ pub(crate) fn line_of(alloc: Global, view: &View<'_>, k: usize, text: &str) -> R
 {
     let number = view.number(k);
     let places = places_of(alloc, text)?;
-    let parts = view.parts(k);
+    let parts = *view.parts(k);
     Ok(TableLine {
         number,
         places,

@@ -9,6 +9,9 @@ use super::looks::Looks;
 use super::text::{indentation, skip, tail};
 use rst_settings::Parts;
 
+/// What a line that isn't there has.
+static NO_PARTS: Parts = Parts::NONE;
+
 /// Some neighbouring lines, the first without some characters at its front and the others without some spaces at
 /// theirs. It borrows the lines and copies nothing. Contracts see it by `block_of`, as a block.
 #[derive(Clone, Copy)]
@@ -135,12 +138,14 @@ impl<'a> View<'a> {
         self.lines.number(self.from + i)
     }
 
-    /// The parts of the wider profile that hold in the line at place `i`, counted from 0.
+    /// The parts of the wider profile that hold in the line at place `i`, counted from 0; none where there is no line.
     pub fn parts(&self, i: usize) -> &'a Parts
-        requires { i < length (block_of self.now) }
         ensures value { result.now ≡ first_parts (drop i (block_of self.now)) }
-        ensures as_first { result.now ≡ first_parts (block_of self.now) }
+        ensures as_first { i < length (block_of self.now) → result.now ≡ first_parts (block_of self.now) }
     {
+        if self.len() <= i {
+            return &NO_PARTS;
+        }
         self.lines.parts()
     }
 

@@ -66,7 +66,7 @@ ERROR 7: Unknown interpreted text role \"x\".
 
 /// The nodes and the messages of a text on line 7.
 fn nodes_and_messages(alloc: Global, text: &str) -> Result<String, Fail> {
-    let Pieces { nodes, notes } = inline(alloc, Parts::NONE, text, 7)?;
+    let Pieces { nodes, notes } = inline(alloc, &Parts::NONE, text, 7)?;
     let paragraph = Node::Element {
         tag: Tag::Paragraph,
         attrs: Attrs::new(alloc),

@@ -234,7 +234,7 @@ const INLINE: &str =
 fn reads_inline_markup(rt: HostRuntime) {
     let mut refusals = Refusals::none();
     for _ in 0..2 {
-        match inline(rt.alloc(), Parts::NONE, INLINE, 7) {
+        match inline(rt.alloc(), &Parts::NONE, INLINE, 7) {
             Ok(read) => {
                 assert_eq!(rt; (read.nodes.len(), read.notes.len()), (29, 1));
             }

@@ -13,13 +13,15 @@ from docutils import nodes, utils
 from docutils.nodes import fully_normalize_name, whitespace_normalize_name
 from docutils.statemachine import StringList
 
+from . import _sources as sources
 from ._escapes import mark_escapes
 from ._machine import Machine, style_of
 
 _CLASSES = vars(nodes)
 _new_element, _new_text, _Text, _TextElement = object.__new__, str.__new__, nodes.Text, nodes.TextElement
 _FIXED = nodes.FixedTextElement
-_HIDDEN = ("inline", "mark", "message", "own_name", "rawsource", "serial", "text_messages")
+_IS_LAST = "is_last"  # in a directive, and so without the blank lines after it
+_HIDDEN = (_IS_LAST, "inline", "mark", "message", "own_name", "rawsource", "serial", "text_messages")
 # Where the text of these has a message on a name, it goes to the parent of the block that they are in.
 _OF_BLOCK = frozenset({"title", "subtitle", "attribution", "term", "classifier", "field_name", "line"})
 _LATER = frozenset({"attribution", "term", "classifier", "field_name", "line", "caption"})  # messages on these don't follow at once
@@ -29,10 +31,6 @@ _PLAIN = frozenset({"paragraph", "block_quote", "literal_block", "doctest_block"
 _PSEUDO_SECTIONS = frozenset({"topic", "sidebar"})
 _OF_DIRECTIVES = frozenset(
     "admonition attention caution compound container danger error figure hint important note sidebar tip topic warning".split()
-)
-_MARK = re.compile(  # what stands before a paragraph in its line
-    r"\A *(?:(?:[-+*\u2022\u2023\u2043]|\(?(?:\d+|[a-zA-Z]|[ivxlcdm]+|[IVXLCDM]+|#)[.)]|:[^`:]+:"
-    r"|\.\. \[[^]]*\]|\.\. [\w:.+-]+::) +)*"
 )
 _ALIAS = re.compile(r"<([^<>]*)_>`_\Z", re.DOTALL)
 
@@ -51,6 +49,8 @@ class Builder:
         self.read: dict[Any, list[Any]] = {}  # messages as they were read, by their numbers
         self.notes: list[Any] = []  # messages on the text that is read
         self.has_others = False  # whether some of these are by a role that is handed back
+        self.tables = 0  # how many tables are open
+        self.shift = 0  # what Docutils adds to the number of the line of a term
         self.has_quotes = bool(getattr(document.settings, "smart_quotes", False))
         self.trim = utils.get_trim_footnote_ref_space(document.settings)
 
@@ -75,12 +75,7 @@ class Builder:
         tag, line = last[:2]
         if self.machine.memo.section_level or tag not in (*_PLAIN, "target"):
             return True
-        return bool(lines[-1]) and (tag == "target" or self.row(line).startswith(".."))
-
-    def row(self, line: int) -> str:
-        """The text of a line; it is empty where there is none."""
-        lines: list[str] = self.lines.data
-        return lines[line - 1] if 0 < line <= len(lines) else ""
+        return bool(lines[-1]) and (tag == "target" or sources.row(lines, line).startswith(".."))
 
     def put_all(self, children: list[Any]) -> None:
         """Puts what is directly in the document or in a section into what is open then."""
@@ -119,7 +114,7 @@ class Builder:
             if name in given:
                 del node.attributes[name]
         node.tagname = tag
-        node.source, node.line = self.place(line)
+        node.source, node.line = self.place(line + self.shift)
         return node
 
     def place(self, line: int) -> tuple[Any, Any]:
@@ -136,10 +131,8 @@ class Builder:
             node.source = node.line = None  # as it is in Docutils while a directive has it
         if isinstance(node, _TextElement):
             self.put(node, inside, holder, holder)
-            if tag == "paragraph":
-                node.rawsource = self.paragraph_source(found[1])
-                if self.has_quotes and "\\" in node.rawsource:
-                    mark_escapes(node, node.rawsource)
+            if tag in sources.OF:
+                self.source(parent, node, found[1])
             elif isinstance(node, _FIXED) and len(inside) == 1 and inside[0].__class__ is str:
                 node.rawsource = inside[0]
             self.name(node, given, node)
@@ -158,6 +151,18 @@ class Builder:
             elif tag == "figure" and self.notes:
                 self.flush(_legend(node))
 
+    def source(self, parent: Any, node: Any, line: int) -> None:
+        """Gives an element that begins at a line its source text, and the line that it has in Docutils."""
+        tag, outside = node.tagname, parent
+        while outside.tagname == "line_block":
+            outside = outside.parent
+        text = sources.OF[tag](self.lines, line)
+        if self.has_quotes and "\\" in text and tag == "paragraph":
+            mark_escapes(node, text)
+        node.rawsource = "" if self.tables else text  # in a table the lines hold other cells, too
+        line = sources.line_of(self.lines, tag, line, parent.tagname, outside is self.open[-1])
+        node.source, node.line = self.place(line and line + self.shift)
+
     def block(self, node: Any, found: list[Any], holder: Any) -> None:
         """What is in an element that holds no text itself."""
         tag, given, inside = node.tagname, found[2], found[3:]
@@ -167,7 +172,7 @@ class Builder:
             self.put(node, inside[1:], node, node)
             return
         if tag == "definition_list_item":
-            self.put(node, inside, holder, holder)
+            self.item(node, found, holder)
             return
         if tag in _OF_DIRECTIVES:
             _note_end(found)
@@ -177,8 +182,22 @@ class Builder:
             titles = _titles(inside)
             self.put(node, inside[:titles], node, holder)
             inside = inside[titles:]
+        elif tag == "field_body":
+            node.rawsource = "" if self.tables else sources.of_field_body(self.lines, found[1])
         self.name(node, given, node)
+        self.tables += tag == "table"
         self.put(node, inside, node, holder)
+        self.tables -= tag == "table"
+
+    def item(self, node: Any, found: list[Any], holder: Any) -> None:
+        """What is in an item of a definition list."""
+        inside = found[3:]
+        terms = sum(child[0] != "definition" for child in inside)
+        self.shift = 0 if self.tables else sources.line_of_term(self.lines, found[1], _IS_LAST in found[2]) - found[1]
+        node.source, node.line = self.place(found[1] + self.shift)
+        self.put(node, inside[:terms], holder, holder)
+        self.shift = 0
+        self.put(node, inside[terms:], holder, holder)
 
     def name(self, node: Any, given: dict[str, Any], holder: Any) -> None:
         """Gives an element the name that it was written with, if there is one."""
@@ -217,6 +236,8 @@ class Builder:
             if note[2].get("message") not in of_text:
                 self.message_of(note)  # it is reported before the title's text is read
         self.put(node, [title], parent, parent)
+        node.children[0].rawsource = sources.row(self.lines, title[1]).strip()
+        node.children[0].source, node.children[0].line = node.source, node.line
         node.attributes["names"].append(fully_normalize_name(node.children[0].astext()))
         self.put(node, notes, node, node)
         self.document.note_implicit_target(node, node)
@@ -239,7 +260,7 @@ class Builder:
         if key not in self.made:
             text, blocks = found[3][3], [one[3] if len(one) > 3 else "" for one in found[4:]]
             shown = [nodes.literal_block(block, block) for block in blocks]
-            self.made[key] = self.reporter.system_message(given["level"], text, *shown, line=given["line"] + self.offset)
+            self.made[key] = self.reporter.system_message(given["level"], text, *shown, line=given["line"] + self.offset + self.shift)
         return self.made[key]
 
     def message(self, parent: Any, found: list[Any], holder: Any) -> None:
@@ -286,7 +307,7 @@ class Builder:
 
     def target(self, parent: Any, found: list[Any], holder: Any) -> None:
         node, given = self.new(found), found[2]
-        node.rawsource = self.source_of(found[1], until_blank=True) if "refname" in given else ""
+        node.rawsource = sources.of_explicit(self.lines, found[1], until_blank=True) if "refname" in given else ""
         self.put(node, found[3:], holder, holder)
         if "inline" in given:
             node.source = node.line = None
@@ -350,7 +371,7 @@ class Builder:
             self.handed(parent, first, holder)
             return
         node, name = self.new(found), found[2]["own_name"]
-        node.rawsource = self.source_of(found[1], until_blank=False)
+        node.rawsource = sources.of_explicit(self.lines, found[1], until_blank=False)
         node["names"].append(name)
         inside = nodes.Element()
         self.put(node, found[3:], inside, inside)
@@ -364,7 +385,7 @@ class Builder:
         """What is handed back: a role in a text, or a directive."""
         _, line, given, source = found
         if given["kind"] == "role":
-            made, messages = self.machine.role(given["name"], source, line + self.offset, holder)
+            made, messages = self.machine.role(given["name"], source, line + self.offset + self.shift, holder)
             for node in made:
                 _attach(parent, node)
             if messages:
@@ -382,25 +403,6 @@ class Builder:
             if in_section and has_more and self.open[0] is self.document:  # the lines may have left sections open, or ended some
                 self.reopen(parent, bool(lines))
                 parent = self.open[-1]
-
-    def paragraph_source(self, line: int) -> str:
-        """The source text of a paragraph, as far as its lines tell: without what is before it in its first line, and not in tables."""
-        rows = [_MARK.sub("", self.row(line), 1)]
-        while self.row(line + len(rows)):
-            rows.append(self.row(line + len(rows)).lstrip(" "))
-        return "\n".join(rows)
-
-    def source_of(self, line: int, until_blank: bool) -> str:
-        """The source text of explicit markup that begins at a line."""
-        lines = self.lines
-        first = self.row(line)
-        column = max(first.find(".. "), 0)
-        rows = [first[column:]]
-        for row in lines[line:]:
-            if row[: column + 1].strip() or (until_blank and not row):
-                break
-            rows.append(row[column:])
-        return "\n".join(rows)
 
     def lines_of(self, rows: list[str], line: int, is_last: bool) -> StringList:
         """The lines of a directive, with the blank lines after them if they belong to it."""
@@ -424,7 +426,6 @@ class Builder:
         memo.section_level = len(self.open) - 1
 
 
-_IS_LAST = "is_last"
 _SPECIAL: dict[str, Callable[[Builder, Any, list[Any], Any], None]] = {
     "citation": Builder.citation,
     "citation_reference": Builder.label,
@@ -477,11 +478,11 @@ def _legend(figure: Any) -> Any:
 
 
 def _note_end(found: list[Any]) -> None:
-    """Notes at the last directive that is handed back in another that blank lines after it belong to neither."""
+    """Notes at the last directive that is handed back in another, and at the last definition, that blank lines after it don't belong to it."""
     while found[3:] and found[-1].__class__ is list:
         found = found[-1]
-    if found[0] == "handed":
-        found[2][_IS_LAST] = True
+        if found[0] in ("handed", "definition_list_item"):
+            found[2][_IS_LAST] = True
 
 
 def _trim(parent: Any) -> None:

@@ -5,7 +5,6 @@ from __future__ import annotations
 import functools
 from typing import Any, Callable, Optional
 
-from docutils.parsers.rst import roles
 from docutils.statemachine import StringList
 
 from ._build import Builder
@@ -20,7 +19,6 @@ def build(document: Any, lines: StringList, inliner: Any, state_classes: Any, re
     machine = Machine(document, lines, inliner, state_classes, functools.partial(_build_inside, read, document))
     Builder(document, machine, lines, document).fill(made)
     machine.end()
-    roles._roles.pop("", None)  # the default role is as before
 
 
 def _build_inside(read: Read, document: Any, machine: Machine, block: StringList, offset: int, parent: Any, titles: bool) -> bool:

@@ -9,7 +9,9 @@ from docutils import nodes, utils
 from docutils.parsers.rst import languages, states
 from docutils.statemachine import StringList
 
-_ROLE = re.compile(r"(?::(?P<before>[^`]*):)?`(?P<text>.*)`(?::(?P<behind>[^`]*):)?", re.DOTALL)
+from ._sources import row
+
+_ROLE = re.compile(r"(?::[^`]*:)?`(?P<text>.*)`(?::[^`]*:)?", re.DOTALL)
 _EXPLICIT = re.compile(r"\.\. |__ |\.\.$|__$")
 _BREAK = re.compile("\r\n|\r|\n")
 _SPACES = re.compile("[\v\f]")
@@ -92,26 +94,21 @@ class Machine:
         source, number = found
         return source, number
 
-    def row(self, line: int) -> str:
-        """The text of a line; it is empty where there is none."""
-        lines: list[str] = self.lines.data
-        return lines[line - 1] if 0 < line <= len(lines) else ""
-
     def stand(self, tag: str, line: int) -> None:
         """Goes to a block of the document. Docutils' machine stands at the first block of neighbouring explicit markup until it ends."""
         if self.memo.section_level or not line:
             self.at = 0
-        elif not (self.at and _EXPLICIT.match(self.row(line)) and _EXPLICIT.match(self.row(self.at))):
+        elif not (self.at and _EXPLICIT.match(row(self.lines, line)) and _EXPLICIT.match(row(self.lines, self.at))):
             self.at, self.at_paragraph = line, tag == "paragraph"
 
     def end_of(self, line: int) -> int:
         """The place of the line at which Docutils' machine stands when it has read the block that begins at a line, or its first item."""
         end = line
         if not self.at_paragraph:
-            while end < len(self.lines) and self.row(end + 1)[:1] in ("", " "):
+            while end < len(self.lines) and row(self.lines, end + 1)[:1] in ("", " "):
                 end += 1
             return end - 1
-        while self.row(end + 1):
+        while row(self.lines, end + 1):
             end += 1
         return end - (end > line)
 

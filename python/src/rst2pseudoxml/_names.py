@@ -5,16 +5,20 @@ from __future__ import annotations
 import re
 from typing import Any, Iterable, Union
 
+from docutils import nodes
 from docutils.parsers.rst import directives, languages, roles
 
 Hand = Union[str, Iterable[str], None]
 
 _NAME = r"(?:(?!_)\w)+(?:[-._+:](?:(?!_)\w)+)*"
-_DIRECTIVE = re.compile(rf"(?<!\S)({_NAME}) ?::(?!\S)")
-_ROLE = re.compile(rf"(?=:({_NAME}):`)|(?=`:({_NAME}):)")
-_MADE = re.compile(rf"(?<!\S)role ?:: +({_NAME})")  # by the directive `role`
+_MARK = re.compile(r":(?::|(?=`)|(?<=`:))")  # where a name may end or begin; a pattern that begins with one character is quick
+_WORD = re.compile(_NAME)
+_BEFORE = re.compile(rf":(?=({_NAME})\Z)")
+_AFTER = re.compile(rf":({_NAME}):")
+_MADE = re.compile(rf"(?<!\S){_NAME} ?:: +({_NAME})")  # by the directive `role`
 _FILE = re.compile(r"^\s*:(?:file|url):", re.MULTILINE)  # options with which `raw` reads a file
-UNNAMED = "`"  # in a list of roles: interpreted text without a role
+_MORE = frozenset({"default-role", "include", "role"})  # directives that change what roles mean
+UNNAMED = ""  # the name of the role of interpreted text that is written without one
 _BASE = (
     frozenset(
         "admonition attention caution code code-block danger error figure hint image important note replace sourcecode tip topic warning".split()
@@ -50,17 +54,20 @@ class Names:
         self.own = OWN[profile]
 
     def of(self, text: str, language_code: str) -> tuple[set[str], set[str]]:
-        """The names of directives and of roles that are used in a text, as far as they are handed back. A name may be more than is used."""
-        language = languages.get_language(language_code, _Silent())
-        used = {name.lower() for name in _DIRECTIVE.findall(text)} if "::" in text else set()
-        of_directives = {name for name in used if self._is_handed(name, 0, language)}
-        if "raw" in used and _FILE.search(text):
-            of_directives.add("raw")
-        used = {(before or after).lower() for before, after in _ROLE.findall(text)} if ":`" in text or "`:" in text else set()
-        made = {name.lower() for name in _MADE.findall(text)} if "role" in of_directives else set()
-        more = "include" in of_directives  # it may bring definitions of roles
-        of_roles = {name for name in used if name in made or self._is_handed(name, 1, language, more)}
-        if "`" in text and ("" in roles._roles or "default-role" in of_directives):
+        """The names of directives and of roles that are used in a text, as far as they are handed back. A name may be more than is used.
+
+        The role without a name is among them if it may be another than that of a title.
+        """
+        of_directives, of_roles = _used(text)
+        more: frozenset[str] = frozenset()
+        if of_directives or of_roles:
+            language = languages.get_language(language_code, _SILENT)
+            reads_file = "raw" in of_directives and _FILE.search(text)
+            of_directives = {name for name in of_directives if self._is_handed(name, 0, language) or (reads_file and name == "raw")}
+            more = _MORE.intersection(language.directives.get(name, name) for name in of_directives) if of_directives else more
+            made = {name.lower() for name in _MADE.findall(text)} if "role" in more else more
+            of_roles = {name for name in of_roles if name in made or self._is_handed(name, 1, language, "include" in more)}
+        if "`" in text and (_has_default_role() or "default-role" in more or "include" in more):
             of_roles.add(UNNAMED)
         return of_directives, of_roles
 
@@ -70,6 +77,31 @@ class Names:
         if name in self.own[kind]:
             return not _is_of_docutils(_found(name, kind, language))
         return self.others or more or _found(name, kind, language) is not None
+
+
+def _used(text: str) -> tuple[set[str], set[str]]:
+    """The words of a text that may be names of directives, and those that may be names of roles.
+
+    Before the name of a directive there are dots in its line, those of explicit markup.
+    """
+    of_directives: list[str] = []
+    of_roles: list[str] = []
+    for mark in _MARK.finditer(text):
+        place, end = mark.span()
+        if end - place == 2:
+            start = text.rfind("\n", 0, place) + 1
+            if text.find("..", start, place) >= 0:
+                of_directives += text[start:place].split()[-1:]
+            continue
+        found = _AFTER.match(text, place)
+        of_roles += found.groups() if found else _BEFORE.findall(text, text.rfind("\n", 0, place) + 1, place)
+    return {name.lower() for name in of_directives if _WORD.fullmatch(name)}, {name.lower() for name in of_roles}
+
+
+def _has_default_role() -> bool:
+    """Whether text without a role has another role now than that of a title."""
+    found: Any = roles._roles.get(UNNAMED) or roles._role_registry[roles.DEFAULT_INTERPRETED_ROLE]
+    return getattr(found, "node_class", None) is not nodes.title_reference
 
 
 class _Silent:
@@ -86,12 +118,14 @@ class _Silent:
     info = warning = error = _nothing
 
 
+_SILENT: Any = _Silent()
+
+
 def _found(name: str, kind: int, language: Any) -> Any:
     """What Docutils runs for a name now; None if it knows none."""
-    silent: Any = _Silent()
     kept: Any = (directives._directives, roles._roles)[kind]
     is_kept = name in kept
-    found = (directives.directive(name, language, silent) if kind == 0 else roles.role(name, language, 0, silent))[0]
+    found = (directives.directive(name, language, _SILENT) if kind == 0 else roles.role(name, language, 0, _SILENT))[0]
     if not is_kept:
         kept.pop(name, None)  # so that Docutils says how it found the name when it is used
     return found

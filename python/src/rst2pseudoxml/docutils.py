@@ -24,6 +24,7 @@ from typing import TYPE_CHECKING, Any, Callable, Iterable
 
 from docutils import frontend, nodes, readers, utils
 from docutils.parsers import rst
+from docutils.parsers.rst import roles
 from docutils.readers import standalone
 from docutils.transforms import Transform, frontmatter, references, universal
 
@@ -49,8 +50,7 @@ class Parser(rst.Parser):
     `rst2pseudoxml.Refused`. Another profile than "base" and "docutils" is a ValueError.
 
     `hand` names what is handed back to Docutils: "registered" is each directive and role that Docutils finds by its name, but for what the
-    profile has itself; a list of names adds these; "all" is all. Docutils' own transforms run then. A text is read by Docutils' own parser as
-    a whole where text in backquotes has a role of its own (`default-role`).
+    profile has itself; a list of names adds these; "all" is all. Docutils' own transforms run then.
     """
 
     def __init__(self, rfc2822: bool = False, inliner: Any = None, profile: str = "docutils", hand: Hand = None) -> None:
@@ -63,19 +63,18 @@ class Parser(rst.Parser):
         """Puts what is read of a text into a document that is empty."""
         text: Any = inputstring  # Docutils asks for a str, and only keeps it
         written = text if isinstance(text, str) else bytes(text).decode("utf-8", "replace")
-        directives, roles = self.names.of(written, document.settings.language_code) if self.names else (set(), set())
-        if UNNAMED in roles:
-            super().parse(written, document)
-            return
+        used = self.names.of(written, document.settings.language_code) if self.names else ()
         self.setup_parse(text, document)
         settings = _settings_of(document, self.profile)
-        made = parsed(text, directives, roles, settings) if directives or roles else ""
+        made = parsed(text, *used, settings) if any(used) else ""
         if self.names and _HANDED.search(made):
             lines = lines_of(written, settings["tab_width"], document["source"])
             build(document, lines, self.inliner, self.state_classes, reading(self.names, document, settings), loads(made))
             self.finish_parse()
         else:
             self._fill(text, document)
+        if self.names:
+            roles._roles.pop(UNNAMED, None)  # a document's default role ends with it
 
     def _fill(self, text: Text, document: Any) -> None:
         """Puts a text into a document as the library finishes it."""
@@ -181,9 +180,9 @@ def _settings_of(document: Any, profile: str) -> Any:
     }
 
 
-def parsed(text: Text, directives: Iterable[str], roles: Iterable[str], settings: Settings) -> str:
+def parsed(text: Text, of_directives: Iterable[str], of_roles: Iterable[str], settings: Settings) -> str:
     """The document as the library parses it, before the transforms, as JSON; names in these sets are handed back."""
-    names = "\n".join([*directives, *(":" + role for role in roles)]).encode()
+    names = "\n".join([*of_directives, *(":" + name for name in of_roles)]).encode()
     return answer(LIBRARY.rst_parse, text, settings, (names, len(names)))[0]
 
 
@@ -192,8 +191,7 @@ def reading(names: Names, document: Any, settings: Settings) -> Callable[[str], 
 
     def read(text: str) -> Any:
         try:
-            directives, roles = names.of(text, document.settings.language_code)
-            return None if UNNAMED in roles else loads(parsed(text, directives, roles, settings))
+            return loads(parsed(text, *names.of(text, document.settings.language_code), settings))
         except Refused:
             return None
 

@@ -2,7 +2,8 @@
 
 Directives and roles that aren't Docutils' own are handed back to Sphinx, and so are those of Docutils that Sphinx or an extension has in
 another form (`code-block`, `figure`, `math`). Docutils' and Sphinx' own transforms run. The page docs/DOCUTILS.md says what is read otherwise
-than by Docutils. A page that the library refuses is read by Sphinx' own parser, and so is one with a default role.
+than by Docutils. A page that the library refuses is read by Sphinx' own parser. Text without a role is handed back where there is a default
+role: by `default_role` in `conf.py`, or by the directive in the page.
 """
 
 from __future__ import annotations

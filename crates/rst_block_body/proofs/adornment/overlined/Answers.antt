@@ -31,6 +31,6 @@ returns c =
     let warning = c.in_ok-warning.ensures in
     let at : c.go_to.new.self.at ≡ l.at + 3 = c.go_to.ensures.there (omega (arith, c.close.ensures.at)) in
     flat_read c.requires.inside c.requires.found tt c.in_ok-close.ensures.closed
-    (title_items _ (rw (text, line, warning, c.parts_at-parts.ensures, c.number_at-line.ensures, c.as_str.ensures.value, c.in_ok-lines.ensures.bytes) at c.in_ok-heading.ensures.title) c.go_to.ensures.moved at c.in_ok-push_heading.ensures.title)
+    (title_items _ (rw (text, line, warning, c.parts-parts.ensures.value, c.number_at-line.ensures, c.as_str.ensures.value, c.in_ok-lines.ensures.bytes) at c.in_ok-heading.ensures.title) c.go_to.ensures.moved at c.in_ok-push_heading.ensures.title)
     (omega (arith, c.close.ensures.run, c.source.ensures.most, c.below_text-text.ensures.looked.1, c.heading_of.ensures.looks))
     (omega (arith, c.close.ensures.low, c.in_ok-lines.ensures.each, looked, c.below_text-text.ensures.looked.0, c.heading_of.ensures.looks))

@@ -32,7 +32,7 @@ returns c =
     record {
       step = search rules;
       read = item_opens B (definition_item infos) waits c.indented-body.result (listed DefinitionListItem DefinitionTag line heads.heads.items heads.notes.items) _ _ opened.step list c.in_ok-enter_list.ensures.read opened.moved opened.at (λ ns. refl)
-          (λ w. definition_made w B l.at infos X _ c.parts_at-parts.ensures c.number_at-line.ensures c.line-term.ensures.text next.is c.in_ok-heads.ensures.read);
+          (λ w. definition_made w B l.at infos X _ c.parts-parts.ensures.value c.number_at-line.ensures c.line-term.ensures.text next.is c.in_ok-heads.ensures.read);
       paid = paid_item 25 waits c.indented-body.result (hanging_size X) _ _ _ _ (omega arith) c.requires.inside next (below_to l.at B next.is) looks.0 looks.1 opened.step tt refl
           (opened.moved.depth ∙ list.depth) opened.at (omega arith) (omega (arith, c.enter_list.ensures.looked.0, c.line-term.ensures.looks)) (omega (arith, c.enter_list.ensures.looked.1, c.line-term.ensures.looks));
     }

@@ -35,7 +35,7 @@ returns c =
     record {
       step = search rules;
       read = item_opens B (field_item c.args.mark) waits c.hanging-body.result (listed FieldTag FieldBody line heads.items notes.items) _ _ opened.step list c.in_ok-enter_list.ensures.read opened.moved opened.at (λ ns. refl)
-          (λ w. field_made w B l.at c.args.mark X _ c.parts_at-parts.ensures c.number_at-line.ensures (ap chars c.as_str-text.ensures.value ∙ text ∙ ap (λ t. slice_range t c.args.mark.name.from c.args.mark.name.to) c.line.ensures.text)
+          (λ w. field_made w B l.at c.args.mark X _ c.parts-parts.ensures.value c.number_at-line.ensures (ap chars c.as_str-text.ensures.value ∙ text ∙ ap (λ t. slice_range t c.args.mark.name.from c.args.mark.name.to) c.line.ensures.text)
           found.part (search rules) c.in_ok-name-2.ensures.read);
       paid = paid_item 29 waits c.hanging-body.result (hanging_size X) _ _ _ _ (omega arith) c.requires.inside next (hanging_to l.at c.args.mark.marker X found.part) found.reach found.low opened.step tt refl
           (opened.moved.depth ∙ list.depth) opened.at (omega arith) (omega (arith, c.enter_list.ensures.looked.0, c.line.ensures.looks)) (omega (arith, c.enter_list.ensures.looked.1, c.line.ensures.looks));

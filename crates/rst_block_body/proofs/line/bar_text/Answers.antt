@@ -21,7 +21,7 @@ returns-then-marker-clause-line c =
     let below : block_of c.inside-below.result ≡ below_bar B (span_to c.args.at c.args.end) =
     c.inside-below.ensures.block ∙ ap (lines_in (block_of c.lines_between-below.result)) c.indented.ensures.part ∙ ap (λ Y. lines_in Y (indented_part 0 Y)) c.lines_between-below.ensures.lines in
     λ last. bare_line B c.args.marker (span_to c.args.at c.args.end) c.number_at-line.result c.first_line_or-text_line.result last (chars (string_bytes c.in_ok-further.further)) (block_of c.inside-below.result)
-    c.parts_at-parts.result c.parts_at-parts.ensures c.if-marker.true c.number_at-line.ensures below c.first_line_or-text_line.ensures c.in_ok-further.ensures.text
+    c.parts-parts.result.now c.parts-parts.ensures.value c.if-marker.true c.number_at-line.ensures below c.first_line_or-text_line.ensures c.in_ok-further.ensures.text
 
 pub returns-clause-line : goal.returns-clause-line
 returns-clause-line c =
@@ -40,7 +40,7 @@ returns-clause-line c =
     ] in
     let below : Y ≡ below_bar B (span_to c.args.at c.args.end) =
     c.inside-below.ensures.block ∙ ap (lines_in (block_of c.lines_between-below.result)) c.indented.ensures.part ∙ ap (λ Y. lines_in Y (indented_part 0 Y)) c.lines_between-below.ensures.lines in
-    λ last. full_line B c.args.marker (span_to c.args.at c.args.end) c.saturating_sub.result c.number_at-line.result last (chars (string_bytes c.if-len-gt0.text)) Y c.parts_at-parts.result c.parts_at-parts.ensures c.if-marker.false c.requires.inside
+    λ last. full_line B c.args.marker (span_to c.args.at c.args.end) c.saturating_sub.result c.number_at-line.result last (chars (string_bytes c.if-len-gt0.text)) Y c.parts-parts.result.now c.parts-parts.ensures.value c.if-marker.false c.requires.inside
     c.saturating_sub.ensures c.number_at-line.ensures below
     (text ∙ ap (λ t. text_over t Y) (c.skip-first.ensures.chars ∙ ap (drop c.args.marker.cut) c.line.ensures.text))
 

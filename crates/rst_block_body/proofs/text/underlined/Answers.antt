@@ -23,7 +23,7 @@ returns-then-titles c =
     let looked : length (slice_range B l.at (l.at + 2)) ≡ 2 = lines_looked B l.at 2 (omega (arith, c.requires.inside)) in
     record {
       read = gives_map _ _ c.push_heading.result c.push_heading.ensures.title (λ _ h. title_items _
-          (rw (sym c.titles.ensures ∙ c.if-titles.true) (rw (c.unwrap_or.ensures, c.first_char.ensures, c.below_text.ensures.text, c.line-text.ensures.text, c.parts_at-parts.ensures, c.number_at-line.ensures, c.in_ok-warning.ensures, under, c.as_str.ensures.value, c.in_ok-lines.ensures.bytes) at c.in_ok-heading.ensures.title))
+          (rw (sym c.titles.ensures ∙ c.if-titles.true) (rw (c.unwrap_or.ensures, c.first_char.ensures, c.below_text.ensures.text, c.line-text.ensures.text, c.parts-parts.ensures.value, c.number_at-line.ensures, c.in_ok-warning.ensures, under, c.as_str.ensures.value, c.in_ok-lines.ensures.bytes) at c.in_ok-heading.ensures.title))
           c.go_to.ensures.moved (c.go_to.ensures.there (omega arith)) h);
       looked = gives_kept _ _ c.push_heading.result c.push_heading.ensures.title (λ _ _. (omega (arith, c.in_ok-lines.ensures.each, looked, few.0), omega (arith, c.source.ensures.most, few.1)));
     }

@@ -17,6 +17,6 @@ returns-in_ok-text-in-Title-clause-read c =
     let B : Block = block_of c.args.view.now in
     let read = read_of_directive c.args.found.now in
     subst (λ (nodes : Numbered (List Node)). Gives (HoldsNodes nodes c.args.pass.now.numbers c.text_element.new.pass.numbers) c.text_element.result)
-    (text_is false read c.parts_at.ensures refl (ap chars c.as_str.ensures.value ∙ c.in_ok-text-in-Title.ensures.text ∙ ap joined c.inside.ensures.block)
+    (text_is false read c.parts.ensures.value refl (ap chars c.as_str.ensures.value ∙ c.in_ok-text-in-Title.ensures.text ∙ ap joined c.inside.ensures.block)
     ∙ ap (λ a. closed_by (given_in a) B c.args.line read) (sym c.in-Title.is))
     c.text_element.ensures.read

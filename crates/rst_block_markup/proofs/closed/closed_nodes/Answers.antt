@@ -20,9 +20,9 @@ returns-in_ok-text-in-Marked-clause-read c =
     let read = read_of_directive c.args.found.now in
     let line = first_number (drop c.args.at B) in
     subst (λ (nodes : Numbered (List Node)). Keeps c.text_element.result (λ made. Ok (made.items, c.text_element.new.pass.numbers)) (nodes c.args.pass.now.numbers))
-    (text_is true read c.parts_at.ensures c.number_at-line.ensures (ap chars c.as_str.ensures.value ∙ chars_spelled c.in_ok-text-in-Marked.text (content_lines B read.content) c.in_ok-text-in-Marked.ensures.bytes)
+    (text_is true read c.parts.ensures.value c.number_at-line.ensures (ap chars c.as_str.ensures.value ∙ chars_spelled c.in_ok-text-in-Marked.text (content_lines B read.content) c.in_ok-text-in-Marked.ensures.bytes)
     ∙ ap (λ k. closed_with k (251 - c.args.depth) B line read) (sym c.in-Marked.is))
-    (held_keeps (marked_text true read c.parts_at.result c.number_at-line.result (chars c.as_str.result.now)) c.args.pass.now.numbers c.text_element.new.pass.numbers c.text_element.result c.text_element.ensures.read)
+    (held_keeps (marked_text true read c.parts.result.now c.number_at-line.result (chars c.as_str.result.now)) c.args.pass.now.numbers c.text_element.new.pass.numbers c.text_element.result c.text_element.ensures.read)
 
 pub returns-in_ok-formulas-in-Formulas-clause-read : goal.returns-in_ok-formulas-in-Formulas-clause-read
 returns-in_ok-formulas-in-Formulas-clause-read c =

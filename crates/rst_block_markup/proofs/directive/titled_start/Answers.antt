@@ -28,8 +28,8 @@ returns-clause-read c =
     c.in_ok-append-3.ensures
     ∙ ap (λ (ns : List Node). ns ++ more) (c.in_ok-append-2.ensures ∙ ap (λ (ns : List Node). ns ++ notes) (c.in_ok-append.ensures ∙ ap (λ (ns : List Node). ns ++ heads) c.in_ok-nodes.ensures)) in
     titled_reads line (read_of_directive f) (block_of c.args.lines.now) c.args.pass.now.numbers c.with_text.new.numbers c.subtitle.new.numbers title notes heads more c.in_ok-filled.field-0
-    c.parts_at-parts.ensures c.first_line_or-title_line.ensures (ap chars c.as_str-text.ensures.value ∙ c.in_ok-text.ensures.text)
+    c.parts-parts.ensures.value c.first_line_or-title_line.ensures (ap chars c.as_str-text.ensures.value ∙ c.in_ok-text.ensures.text)
     c.in_ok-title.ensures.read
-    (sym (ap (λ ss. subtitled c.parts_at-parts.result (subtitle_chosen (choices_in ss)) line c.with_text.new.numbers) slice) ∙ c.in_ok-more.ensures)
+    (sym (ap (λ ss. subtitled c.parts-parts.result.now (subtitle_chosen (choices_in ss)) line c.with_text.new.numbers) slice) ∙ c.in_ok-more.ensures)
     (c.in_ok-filled.ensures ∙ ap (filled c.match-element.node) nodes
     ∙ ap (λ (n : Node). filled n (title ∷ heads ++ notes ++ more)) (made ∙ ap (λ (n : Node). titled_element f.kind.element n title) own))

@@ -10,11 +10,11 @@ use Rattle.rst_inline.proofs.nodes.inline_from.Goals as goal
 
 pub returns-then-is_quiet : goal.returns-then-is_quiet
 returns-then-is_quiet c =
-    let bytes : quiet c.args.parts.mail c.args.text.now ≡ true = cc in
-    quiet-read c.args.parts (chars c.args.text.now) c.args.line c.args.first _ (quiet-chars c.args.parts.mail c.args.text.now c.utf8.text bytes) (c.into_list.ensures.nodes ∙ ap nodes_of c.in_ok-children.ensures) c.new.ensures.items
+    let bytes : quiet c.args.parts.now.mail c.args.text.now ≡ true = cc in
+    quiet-read c.args.parts.now (chars c.args.text.now) c.args.line c.args.first _ (quiet-chars c.args.parts.now.mail c.args.text.now c.utf8.text bytes) (c.into_list.ensures.nodes ∙ ap nodes_of c.in_ok-children.ensures) c.new.ensures.items
 
 pub read-requires : goal.read-requires
 read-requires c =
     let t = c.in_ok-written.written.characters.items in
-    let parts = c.in_ok-written.written.parts in
+    let parts = c.in_ok-written.written.parts.now in
     IsPieces-within parts.mail t 0 c.deref.result.now (omega arith) (subst (IsPieces parts.mail t 0) (sym c.deref.ensures.value) c.in_ok-pieces.ensures)

@@ -26,5 +26,5 @@ returns-clause-begun c =
     let first_line = sym c.line-text.ensures.text in
     let next = sym c.below_text-next.ensures.text in
     let after = sym c.below_text-after.ensures.text in
-    begun_of X c.parts.result (chars c.line-text.result.now) (chars c.below_text-next.result.now) (chars c.below_text-after.result.now) c.begun_by.result parts first_line next after
+    begun_of X c.parts.result.now (chars c.line-text.result.now) (chars c.below_text-next.result.now) (chars c.below_text-after.result.now) c.begun_by.result parts first_line next after
     (c.begun_by.ensures.kind X parts first_line next after) c.begun_by.ensures.mark

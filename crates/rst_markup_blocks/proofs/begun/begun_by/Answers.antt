@@ -31,4 +31,4 @@ returns-clause-kind c = λ X p a b d.
     c.later_begun.ensures.kind X a ∙ by_row _ X _ _ _ _ p a b d (search rules)
 
 pub returns-clause-mark : goal.returns-clause-mark
-returns-clause-mark c = c.later_begun.ensures.mark c.args.parts (chars c.args.next.now) (chars c.args.after.now)
+returns-clause-mark c = c.later_begun.ensures.mark c.args.parts.now (chars c.args.next.now) (chars c.args.after.now)

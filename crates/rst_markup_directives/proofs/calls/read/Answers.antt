@@ -29,8 +29,8 @@ returns-clause-reading c =
     let len = ap length c.part-lines.ensures.block ∙ length_cut _ _ _ _ _ c.requires.block.ordered c.requires.block.within in
     let none : c.if-late.none ≡ (c.args.late && (is_text c.args.kind.content || (first_parts H).unmarked)) = search rules in
     let count : length c.deref.result.now ≡ length (texts_of c.deref.result.now) = sym (length_texts c.deref.result.now) in
-    let same = read-is c.first_parts-parts.result c.args.kind c.args.late c.args.block (cut (block_of c.args.view.now) c.args.block.from c.args.block.to c.args.block.first_cut c.args.block.rest_cut)
+    let same = read-is c.parts-parts.result.now c.args.kind c.args.late c.args.block (cut (block_of c.args.view.now) c.args.block.from c.args.block.to c.args.block.first_cut c.args.block.rest_cut)
     H (texts_of c.deref.result.now) (c.args.block.to - c.args.block.from) c.len.result c.lines_end-rest.result
-    c.first_parts-parts.ensures c.part-lines.ensures.block len (ap texts_of c.deref.ensures.value ∙ c.in_ok-run.ensures.texts ∙ ap (λ none. cond none [] (first_run H)) none) (c.len.ensures ∙ sym c.deref.ensures.len ∙ count) c.lines_end-rest.ensures.end in
+    c.parts-parts.ensures.value c.part-lines.ensures.block len (ap texts_of c.deref.ensures.value ∙ c.in_ok-run.ensures.texts ∙ ap (λ none. cond none [] (first_run H)) none) (c.len.ensures ∙ sym c.deref.ensures.len ∙ count) c.lines_end-rest.ensures.end in
     let P : Result Read Wrong → Type 0 = λ r. IfOk c.read_run.result (λ reading. reading_in reading ≡ r) in
     subst P same c.read_run.ensures

@@ -25,11 +25,11 @@ invariant_of-result c =
 pub returns-clause-line : goal.returns-clause-line
 returns-clause-line c =
     let row : ℕ → Parts → List Place → Row = λ n parts ps. record { number = n; places = ps; parts = parts } in
-    row_here (block_of c.args.view.now) c.args.k (row c.number-number.result c.parts-parts.result c.in_ok-places.places.items) c.requires.inside
+    row_here (block_of c.args.view.now) c.args.k (row c.number-number.result c.parts-parts.result.now c.in_ok-places.places.items) c.requires.inside
     (ap₂ (λ n parts. row n parts c.in_ok-places.places.items) c.number-number.ensures.value c.parts-parts.ensures.value ∙ ap (row _ _) (c.in_ok-places.ensures ∙ ap places_of c.requires.text))
 
 pub returns-clause-number : goal.returns-clause-number
 returns-clause-number c = c.number-number.ensures.from_first
 
 pub returns-clause-parts : goal.returns-clause-parts
-returns-clause-parts c = c.parts-parts.ensures.as_first
+returns-clause-parts c = c.parts-parts.ensures.as_first c.requires.inside

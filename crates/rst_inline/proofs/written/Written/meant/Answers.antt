@@ -24,7 +24,7 @@ overflow_sub-high c =
 pub returns-then-is_alias : goal.returns-then-is_alias
 returns-then-is_alias c =
     let t = c.args.self.now.characters.items in
-    let parts = c.args.self.now.parts in
+    let parts = c.args.self.now.parts.now in
     let u = part t c.args.low c.args.high in
     let enclosed = c.part-enclosed.ensures ∙ ap (λ (t : Text). part t c.args.low c.args.high) c.deref.ensures.value in
     let alias : is_alias u ≡ true = ap is_alias (sym enclosed) ∙ sym c.is_alias.ensures ∙ c.if-is_alias.true in

@@ -12,7 +12,7 @@ use Rattle.rst_inline.proofs.written.Written.phrase_display_text.Goals as goal
 pub returns-then-place-eq0 : goal.returns-then-place-eq0
 returns-then-place-eq0 c =
     let t = c.args.self.now.characters.items in
-    let parts = c.args.self.now.parts in
+    let parts = c.args.self.now.parts.now in
     let p = c.args.piece in
     let phrase = c.args.phrase.now in
     let within = subst (λ (phrase : Text). 0 + 2 < length phrase) c.requires.phrase (subst (λ n. n + 2 < length phrase) c.if-place-eq0.true c.requires.place) in
@@ -23,7 +23,7 @@ returns-then-place-eq0 c =
 pub returns : goal.returns
 returns c =
     let t = c.args.self.now.characters.items in
-    let parts = c.args.self.now.parts in
+    let parts = c.args.self.now.parts.now in
     let p = c.args.piece in
     let phrase = c.args.phrase.now in
     let place = c.args.place in

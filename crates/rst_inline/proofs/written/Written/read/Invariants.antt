@@ -7,6 +7,6 @@ invariant-loop-piece l =
     let t = l.self.characters.items in
     let rest = drop l.piece-index l.pieces in
     record {
-      nodes : l.nodes.items ++ nodes_from l.self.parts t l.self.line l.number rest ≡ nodes_from l.self.parts t l.self.line l.first l.pieces;
-      notes : l.notes.items ++ notes_of l.self.parts t l.self.line rest ≡ notes_of l.self.parts t l.self.line l.pieces;
+      nodes : l.nodes.items ++ nodes_from l.self.parts.now t l.self.line l.number rest ≡ nodes_from l.self.parts.now t l.self.line l.first l.pieces;
+      notes : l.notes.items ++ notes_of l.self.parts.now t l.self.line rest ≡ notes_of l.self.parts.now t l.self.line l.pieces;
     }
