@@ -62,7 +62,7 @@ static int take_number(struct part *part, uint64_t *number)
     return 0;
 }
 
-/* Takes bytes, which stand behind their number, away from the front of a part. -1 if there are fewer. */
+/* Takes bytes, which stand after their number, away from the front of a part. -1 if there are fewer. */
 static int take(struct part *part, struct part *taken)
 {
     uint64_t length;
