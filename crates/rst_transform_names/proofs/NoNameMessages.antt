@@ -18,7 +18,7 @@ use Rattle.rst_tree.proofs.Changes.{forest_of-nodes_of}
 use Rattle.rst_transform_names.specs.declared.queue.Queued.TheVariants.{Present, New}
 use Rattle.rst_transform_names.specs.NameMessages.{after_next, before_next, beginning, counted, filled, first_queue, goes_out, is_inline, is_section, message_on, taken, takes_in, with_due, with_filled_element, with_name_messages, with_own, Filled, Queue}
 
-either_none : {X : Type 0} (b : Bool) → ◌≡◌ {A = List X} (if b then [] else []) []
+pub either_none : {X : Type 0} (b : Bool) → ◌≡◌ {A = List X} (if b then [] else []) []
 either_none true = refl
 either_none false = refl
 

@@ -9,6 +9,7 @@ mod message_ids;
 mod names;
 mod placing;
 mod queue;
+mod quiet;
 mod registrants;
 mod registration;
 mod registry;

@@ -6,6 +6,7 @@ ghost use Rattle.rst_transform_names.specs.PlacingMessages.{seen};
 
 use super::inside::{Inside, put_first};
 use super::queue::{Queue, put_next};
+use super::quiet::is_quiet;
 use rst_tree::{Children, Node, Result, Tag};
 use std::alloc::Global;
 
@@ -28,6 +29,9 @@ fn fill(
     }
     made.nodes = Vec::with_capacity(alloc, nodes.len())?;
     let mut due = Queue::new(alloc);
+    // Only the nodes of these are looked through, and so none twice: a look ends at a section, and markup puts no document into an
+    // element.
+    let looks = matches!(parent, Tag::Document | Tag::Section);
     for node in nodes.into_list() {
         match node {
             Node::Text(text) => made.nodes.push(Node::Text(text))?,
@@ -38,6 +42,15 @@ fn fill(
                 line,
             } => {
                 made.put_due(first, &mut due)?;
+                if looks && is_quiet(tag, &attrs, &children, messages) {
+                    made.nodes.push(Node::Element {
+                        tag,
+                        attrs,
+                        children,
+                        line,
+                    })?;
+                    continue;
+                }
                 let mut begun = Queue::new(alloc);
                 put_first(alloc, tag, &attrs, messages, &mut made.queue, &mut begun)?;
                 let mut inside = Inside::beginning(alloc, tag, &attrs)?;

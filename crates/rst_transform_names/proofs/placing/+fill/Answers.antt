@@ -1,10 +1,12 @@
-use Rattle.std.proofs.Common.{◌≡◌, true, List, [], ◌++◌, refl, sym, ◌∙◌}
+use Rattle.std.proofs.Common.{rules, ◌≡◌, true, List, [], ◌++◌, refl, sym, ◌∙◌}
 use Rattle.rst_tree.specs.declared.attrs.Attr.{Attr}
 use Rattle.rst_tree.specs.declared.node.Node.{Node}
 use Rattle.rst_tree.specs.declared.tag.Tag.{Tag}
 use Rattle.rst_tree.specs.Forest.{Forest, bare, words}
-use Rattle.rst_tree.specs.Nodes.{are_plain, nodes_of}
+use Rattle.rst_tree.specs.Nodes.{are_plain, forest_of, nodes_of}
 use Rattle.rst_transform_names.specs.NameMessages.{before_next, filled, message_on, own_message, Queue}
+use Rattle.rst_transform_names.specs.PlacingMessages.{seen}
+use Rattle.rst_transform_names.proofs.QuietElements.{quiet_step}
 use Rattle.rst_transform_names.proofs.placing.+fill.Goals as goal
 
 -- a text alone, or no node, before the messages of the queue
@@ -21,3 +23,10 @@ returns-then-are_plain t c =
       c.in_ok-put_next.ensures.nodes,
       c.into_list.ensures.nodes,
     ) refl
+
+-- a quiet element, passed over
+pub loop-node-preserved-then-is_quiet : goal.loop-node-preserved-then-is_quiet
+loop-node-preserved-then-is_quiet t c =
+    let e = c.in-Element in
+    let step = quiet_step (message_on c.args.messages.now) c.args.parent e.tag e.attrs e.line e.children (forest_of c.next.new.self.rest.items) c.loop-node.first.items c.loop-node.due.items (seen c.loop-node.made) (sym c.is_quiet.ensures ∙ c.if-is_quiet.true) in
+    search (rules, step)
