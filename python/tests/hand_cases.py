@@ -79,7 +79,7 @@ h" i\\*'s
 
   *o*\\ 's
 """
-"""Quotation marks behind backslashes."""
+"""Quotation marks after backslashes."""
 
 SOURCES = """A *title*
 =========

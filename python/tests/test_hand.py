@@ -305,6 +305,11 @@ class Names(unittest.TestCase):
         text = "a::\n\n  b c::\n\n.. d:: e::\n\n.. |f| g:: h\n\n:i:`j` k:`l` `m`: n `o`:p:\n"
         self.assertEqual(_names.Names("all", "docutils").of(text, "en"), ({"d", "e", "g"}, {"i", "p"}))
 
+    def test_long_lines(self):
+        """However long the line before a name is, the name is found."""
+        text = f".. |{'a b ' * 90}| c:: d\n\n{'a:b ' * 90}:e:`f` {'`a`:b:' * 90} `g`:h:\n"
+        self.assertEqual(_names.Names("all", "docutils").of(text, "en"), ({"c"}, {"b", "e", "h"}))
+
     def test_in_the_place_of_docutils(self):
         """What an extension has registered under a name of the profile is handed back."""
         text = ".. note:: a\n\n:sub:`b`\n"

@@ -70,7 +70,7 @@ class Builder:
         self.put(parent, children, parent, parent)
 
     def is_past_end(self, last: Any) -> bool:
-        """Whether Docutils' machine ends behind the end of the text, so that a message without a line has none. It goes there from a list."""
+        """Whether Docutils' machine ends after the end of the text, so that a message without a line has none. It goes there from a list."""
         lines = self.lines
         tag, line = last[:2]
         if self.machine.memo.section_level or tag not in (*_PLAIN, "target"):

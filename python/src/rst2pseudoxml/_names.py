@@ -15,8 +15,9 @@ _MARK = re.compile(r":(?::|(?=`)|(?<=`:))")  # where a name may end or begin; a 
 _WORD = re.compile(_NAME)
 _BEFORE = re.compile(rf":(?=({_NAME})\Z)")
 _AFTER = re.compile(rf":({_NAME}):")
+_LONGEST = 100  # characters of a name: no more are looked at, so the time grows with the text alone, whatever it is
 _MADE = re.compile(rf"(?<!\S){_NAME} ?:: +({_NAME})")  # by the directive `role`
-_FILE = re.compile(r"^\s*:(?:file|url):", re.MULTILINE)  # options with which `raw` reads a file
+_FILE = re.compile(r"^[^\S\n]*:(?:file|url):", re.MULTILINE)  # options with which `raw` reads a file
 _MORE = frozenset({"default-role", "include", "role"})  # directives that change what roles mean
 UNNAMED = ""  # the name of the role of interpreted text that is written without one
 _BASE = (
@@ -88,13 +89,15 @@ def _used(text: str) -> tuple[set[str], set[str]]:
     of_roles: list[str] = []
     for mark in _MARK.finditer(text):
         place, end = mark.span()
+        first = max(0, place - _LONGEST)
+        start = text.rfind("\n", first, place) + 1 or first
         if end - place == 2:
-            start = text.rfind("\n", 0, place) + 1
-            if text.find("..", start, place) >= 0:
-                of_directives += text[start:place].split()[-1:]
+            before = text[start:place]
+            if ".." in before or start == place - _LONGEST:
+                of_directives += before.split()[-1:]
             continue
-        found = _AFTER.match(text, place)
-        of_roles += found.groups() if found else _BEFORE.findall(text, text.rfind("\n", 0, place) + 1, place)
+        found = _AFTER.match(text, place, place + _LONGEST)
+        of_roles += found.groups() if found else _BEFORE.findall(text, max(start, text.rfind("`", start, place)), place)
     return {name.lower() for name in of_directives if _WORD.fullmatch(name)}, {name.lower() for name in of_roles}
 
 
