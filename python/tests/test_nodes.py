@@ -190,11 +190,15 @@ class Records(unittest.TestCase):
         return [*vars(node), *node.attributes, node.tagname]
 
     def made_often(self, count):
-        """Makes nodes and gives them up, also of records that end too early."""
+        """Makes nodes and gives them up, also of records that end too early and of an attribute whose second text does."""
+        texts = struct.pack("<Q3sBQ1sQ1s", 3, b"ids", 2, 1, b"a", 9, b"b")
+        element = struct.pack("<BQQ6sQQ", 1, 0, 6, b"inline", 8 + len(texts), len(texts)) + texts
+        document = struct.pack("<BQQ8sQQ", 1, 0, 8, b"document", 0, len(element)) + element
         for number in range(count):
             self.nodes_of(self.records)
-            with self.assertRaises(ValueError):
-                self.nodes_of(self.records[: number % len(self.records)])
+            for wrong in (self.records[: number % len(self.records)], struct.pack("<Q", len(document)) + document):
+                with self.assertRaises(ValueError):
+                    self.nodes_of(wrong)
         gc.collect()
 
     def test_failed_allocations(self):
