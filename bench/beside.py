@@ -22,7 +22,7 @@ import sys
 
 from real import DIRECTIVES, TOP
 
-WIDER = "rubric parsed-literal raw compound container include".split()
+WIDER = "rubric parsed-literal raw compound container class include contents".split()
 ROLES = (
     "abbreviation ab acronym ac math code pep-reference pep rfc-reference rfc raw index i named-reference anonymous-reference footnote-reference "
     "citation-reference substitution-reference target uri-reference uri url emphasis strong literal subscript sub superscript sup "
@@ -81,14 +81,17 @@ class Maker:
     def options(self) -> list[str]:
         made = []
         for _ in range(self.of(1, 1, 2)):
-            name = self.of("class", "class", "name", "file", "url", "start-line", "literal", "foo", "sub", "Class", "code", "tab-width")
+            name = self.of("class", "class", "name", "file", "url", "start-line", "literal", "foo", "sub", "Class", "code", "tab-width", "depth", "local", "backlinks")
             value = {"name": self.name(), "start-line": self.of("1", "x", "-2"), "literal": self.of("", "x"), "tab-width": self.of("4", "x", "")}
+            value |= {"depth": self.of("0", "2", "x"), "local": self.of("", "x"), "backlinks": self.of("top", "Entry", "none", "x")}
             made.append(f":{name}: {value.get(name, self.of('a', 'a b', ''))}".rstrip())
         return self.of(made, made, made, [":sub:`2`: c"])
 
     def directive(self) -> list[str]:
         name = self.of(*WIDER, *WIDER, *WIDER, "note", "image", "code", "foo", "list-table")
         usual = {"rubric": self.text(), "raw": self.of("html", "HTML  x", "h,t"), "container": self.of("", "a", "A b", "?", "a ?"), "image": "a.png"}
+        usual["contents"] = self.of("", self.text())
+        usual["class"] = self.of("a", "A b", "b c d", "?")
         argument = usual.get(name, self.of("a.txt", "")) if self.is_so(0.85) else self.of("", "a", self.text())
         lines = [f".. {self.cased(name)}{self.of('::', '::', '::', ' ::')} {argument}".rstrip()] + self.of([], [], [], [], [""])
         lines += self.indented(self.of([], self.options()), "   ") + self.of([], [""], [""])

@@ -110,7 +110,8 @@ void rst_messages(const uint8_t *text, size_t text_length, const rst_options *op
 /* What is parsed of a text, as JSON: the document before names and ids are given and references are resolved, with the attributes that serve
    this. `names` are directives and roles that are handed back, in UTF-8: a name a line, that of a role with a colon before it, a colon alone
    for the default role. Where the text has one of them there is an element `handed` with its source, and no message. Nothing is shown or
-   halts: `report`, `halt`, `exit_status`, `no_doc_title` and `no_doc_info` make no difference. docs/LIBRARY.md describes it. */
+   halts: `report`, `halt`, `exit_status`, `no_doc_title` and `no_doc_info` make no difference. By the wider profile the directives `class`, where
+   it has no content, and `contents` are elements of their names, which Document Tree doesn't have. docs/LIBRARY.md describes it all. */
 void rst_parse(const uint8_t *text, size_t text_length, const uint8_t *names, size_t names_length, const rst_options *options, uint8_t *json,
                size_t json_room, rst_result *result);
 

@@ -41,7 +41,7 @@ CALLS = ("print", "json", "records", "messages", "parse", "parse_records")
 WORDS = {"-v": "--report=info", "--verbose": "--report=info", "-q": "--report=none", "--quiet": "--report=none", "--strict": "--halt=info"}
 
 
-# Trees have up to 1,350 levels.
+# Trees have up to 1,550 levels.
 sys.setrecursionlimit(20_000)
 threading.stack_size(1 << 26)
 SMALL_STACK = ["sh", "-c", 'ulimit -s 2048 && exec "$@"', "sh"]

@@ -18,7 +18,7 @@ class Names(unittest.TestCase):
         for profile, (of_directives, of_roles) in _names.OWN.items():
             for name in {*directives._directive_registry, *of_directives, *_names.languages.en.directives}:
                 said = [message.text for message in rst2pseudoxml.messages(f".. {name}:: a\n\n   b", profile=profile, halt="none")]
-                if name != "include":  # it is known, but no file is read
+                if name != "include" and name not in _names.PLACES:  # the first is known, but no file is read; the others are handed back
                     self.assertEqual(name in of_directives, f'Unknown directive type "{name}".' not in said, (profile, name))
             for name in {*roles._role_registry, *of_roles, *_names.languages.en.roles}:
                 said = [message.text for message in rst2pseudoxml.messages(f":{name}:`a`", profile=profile, halt="none")]
@@ -34,6 +34,20 @@ class Names(unittest.TestCase):
             ("others", ({"box", "nope", "count", "class"}, {"shout", "b"})),
         ):
             self.assertEqual(_names.Names(hand, "docutils").of(text, "en"), wanted, hand)
+
+    def test_places(self):
+        """Directives that leave a place for a transform are handed back whatever else is, also where they have content."""
+        text = "a\n\n.. class:: b\n\n.. Contents:: c\n\n- .. CLASS:: d\n\n     e\n"
+        for profile in ("base", "docutils"):
+            for hand in ("registered", "all", "others", ["note"], []):
+                self.assertEqual(_names.Names(hand, profile).of(text, "en"), ({"class", "contents"}, set()), (profile, hand))
+        for text, wanted in (
+            (".. class:: x\n\na", '<paragraph classes="x">'),
+            (".. class:: x\n\n   a", '<paragraph classes="x">'),
+            (".. contents:: x\n\na\n=", '<reference ids="toc-entry-1" refid="a">'),
+        ):
+            for profile in ("base", "docutils"):
+                self.assertIn(wanted, doctree(text, profile=profile, hand=["note"]).pformat(), (profile, text))
 
     def test_default_role(self):
         """Text without a role is handed back only if it may have another role than Docutils gives it."""

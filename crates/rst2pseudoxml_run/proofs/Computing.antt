@@ -11,7 +11,7 @@ unfolding
     Rattle.rst2pseudoxml_options.proofs.Computing.rst2pseudoxml_options Rattle.rst_transform_work.proofs.Computing.rst_transform_work
     Rattle.rst_transform_substitutions.proofs.Computing.rst_transform_substitutions
     Rattle.rst_transform_references.proofs.Computing.rst_transform_references Rattle.rst_transform_structure.proofs.Computing.rst_transform_structure
-    Rattle.rst_transform_docinfo.proofs.Computing.rst_transform_docinfo Rattle.rst_transform_messages.proofs.Computing.rst_transform_messages
-    Rattle.rst_transform_names.proofs.Computing.rst_transform_names Rattle.rst2pseudoxml_run.specs.CodeCalls.begins_call
-    Rattle.rst2pseudoxml_run.specs.CodeCalls.begins_code
+    Rattle.rst_transform_docinfo.proofs.Computing.rst_transform_docinfo Rattle.rst_transform_contents.proofs.Computing.rst_transform_contents
+    Rattle.rst_transform_messages.proofs.Computing.rst_transform_messages Rattle.rst_transform_names.proofs.Computing.rst_transform_names
+    Rattle.rst2pseudoxml_run.specs.CodeCalls.begins_call Rattle.rst2pseudoxml_run.specs.CodeCalls.begins_code
 rst2pseudoxml_run = tt

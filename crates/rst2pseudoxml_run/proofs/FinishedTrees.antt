@@ -62,7 +62,7 @@ left_tree settings bytes document notes =
 -- ---- levels alone, for any lines
 
 pub left_low : (profile : Profile) (settings : Settings) (B : Block) (number : ℕ) → profile.nesting ≤ 250
-    → IfOk (document profile B number) (λ read. node_height (leaves read.1 profile settings read.0).0 ≤ 5 * profile.nesting + 83)
+    → IfOk (document profile B number) (λ read. node_height (leaves read.1 profile settings read.0).0 ≤ 5 * profile.nesting + 277)
 left_low profile settings B number few =
     IfOk-weaker (document profile B number) (λ read. Fits Anything (5 * profile.nesting + 72) read.0) _
     (λ read h. let flat = node_flat (5 * profile.nesting + 72) read.0 h.0 (omega arith) in omega (arith, h.0, finishing_low read.1 profile settings read.0 flat, node_height_weight read.0))

@@ -7,14 +7,14 @@ use Rattle.rst_tree.specs.Nodes.{forest_of, nodes_of}
 use Rattle.rst_tree.proofs.Changes.{forest_of-nodes_of}
 use Rattle.rst_tree.specs.declared.node.Node.{Node}
 use Rattle.rst_tree.specs.declared.note.Note.{Note}
+use Rattle.rst_transform_contents.specs.Contents.{with_contents}
 use Rattle.rst_transform_docinfo.specs.Docinfo.{nodes_with_docinfo, with_docinfo}
 use Rattle.rst_transform_names.specs.Registering.{registration, Registration}
 use Rattle.rst_transform_structure.specs.LastSection.{with_last_section}
 use Rattle.rst_transform_structure.specs.Transitions.{with_transitions}
 use Rattle.rst_transform_work.specs.declared.document.Document.{Document}
 use Rattle.rst_transform_work.specs.Known.{Known}
-use Rattle.rst_transform_work.specs.States.{document_in}
-use Rattle.rst_transform.specs.Finishing.{all_messages, asked, known_at_first, leaves, left_of_document, titled_first}
+use Rattle.rst_transform.specs.Finishing.{all_messages, asked, document_at_first, known_at_first, leaves, left_of_document, titled_first}
 use Rattle.rst_transform.specs.Linking.{with_links}
 use Rattle.rst2pseudoxml_run.specs.Profiles.{leading_field_list, titled_of}
 
@@ -37,15 +37,16 @@ module _ (settings : Settings) (messages : ℕ) (document : Node) where
   registered = registration messages document
 
   abbrev titled : Document × Known
-  titled = titled_first settings (document_in registered.root) (known_at_first messages registered)
+  titled = titled_first settings (document_at_first settings registered) (known_at_first messages registered)
 
   -- what is left, by what the document and what is known are once bibliographic fields are looked for, or not
   abbrev left_after : Document × Known → Node × List Note
   left_after informed =
-      let linked = with_links informed.0 informed.1 in
+      let listed = asked settings.parts.directives with_contents informed.0 informed.1 in
+      let linked = with_links listed.0 listed.1 in
       let placed = with_transitions linked.0 linked.1 in
       let done = with_last_section settings.report placed.0 placed.1 in
-      left_of_document settings (all_messages registered done.1.reports) done.0
+      left_of_document settings (all_messages settings registered done.1.reports) done.0
 
   -- what is left is the same where bibliographic fields are looked for by both profiles or by neither, and where no field list leads the document
   pub left_alike : (first later : Profile) → first.docinfo ≡ later.docinfo → leaves messages first settings document ≡ leaves messages later settings document

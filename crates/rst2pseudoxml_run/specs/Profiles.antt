@@ -10,8 +10,7 @@ use Rattle.rst_tree.specs.declared.node.Node.{Node}
 use Rattle.rst_transform_docinfo.specs.Docinfo.{leading_list}
 use Rattle.rst_transform_names.specs.Registering.{registration}
 use Rattle.rst_transform_work.specs.declared.document.Document.{Document}
-use Rattle.rst_transform_work.specs.States.{document_in}
-use Rattle.rst_transform.specs.Finishing.{known_at_first, titled_first}
+use Rattle.rst_transform.specs.Finishing.{document_at_first, known_at_first, titled_first}
 use Rattle.rst2pseudoxml_run.specs.CodeCalls.{IsWithoutCode}
 use Rattle.rst2pseudoxml_run.specs.declared.end.End.TheVariants.{TooDeep}
 use Rattle.rst2pseudoxml_run.specs.Reading.{held, lines_under, IsReadOf}
@@ -36,7 +35,7 @@ CallsNoCode settings (Some text) = IsWithoutCode (lines_under settings text)
 -- what a parsed document, whose messages were given `messages` numbers, has become after the transform of its title
 abbrev pub titled_of : ℕ → Settings → Node → Document
 titled_of messages settings document =
-    let registered = registration messages document in (titled_first settings (document_in registered.root) (known_at_first messages registered)).0
+    let registered = registration messages document in (titled_first settings (document_at_first settings registered) (known_at_first messages registered)).0
 
 -- the field list of a document that would become its bibliography, if there is one
 abbrev pub leading_field_list : Document → Option Node

@@ -60,10 +60,10 @@ pub fn parts_need_their_marks()
     ensures handed { NeedsMark (λ asked. record asked { handed = None }) holds_handed }
 {}
 
-/// Where blocks nest at most 250 deep, a finished document has at most 1,333 levels, for all settings.
+/// Where blocks nest at most 250 deep, a finished document has at most 1,527 levels, for all settings.
 pub fn finished_documents_are_low()
     ensures levels { (profile : Profile) (settings : Settings) (B : Block) (number : ℕ) → profile.nesting ≤ 250
-        → IfOk (document profile B number) (λ read. node_height (leaves read.1 profile settings read.0).0 ≤ 5 * profile.nesting + 83) }
+        → IfOk (document profile B number) (λ read. node_height (leaves read.1 profile settings read.0).0 ≤ 5 * profile.nesting + 277) }
     ensures tree { (profile : Profile) (settings : Settings) (B : Block) (number : ℕ) → profile.nesting ≤ 250
         → IfOk (document profile B number) (λ read. node_height (leaves read.1 profile settings read.0).0 ≤ most_levels) }
     ensures finish { (settings : Settings) (B : Block) (number : ℕ) (result : Result Finished AllocError)

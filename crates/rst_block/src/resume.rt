@@ -12,7 +12,7 @@ ghost use Rattle.rst_block_nodes.specs.declared.texted.Texted.{Texted};
 ghost use Rattle.rst_block_state.specs.declared.waits.Waits.TheVariants.{Quote};
 
 use rst_block_body::quote::quote_part;
-use rst_block_markup::{finished_figure, finished_quotes, finished_replacement};
+use rst_block_markup::{finished_classes, finished_figure, finished_quotes, finished_replacement};
 use rst_block_nodes::{Texted, completed};
 use rst_block_state::{OpenBlock, Pass, Result, Step, Waits};
 use rst_markup_blocks::Part;
@@ -60,6 +60,9 @@ pub(crate) fn resume(
         Waits::Element(element) => level.push_marked(completed(pass.alloc, element, nodes)?)?,
         Waits::Quotes(class) => {
             level.append_marked(finished_quotes(pass.alloc, class, nodes)?)?;
+        }
+        Waits::Classes(element) => {
+            level.append_marked(finished_classes(pass.alloc, &element, nodes)?)?;
         }
         Waits::Figure { figure, start, end } => {
             let looks = &mut pass.looks;

@@ -1,58 +1,63 @@
 -- The nodes of directives and of substitution definitions have at most two levels more than the blocks inside, and their texts have a property.
 use Rattle.std.proofs.Common.{ℕ, ◌+◌, ◌≤◌, Bool, true, false, List, [], ◌∷◌, ◌++◌, drop, length, take, Option, None, Some, arith, refl}
-use Rattle.std.specs.Prelude.{codes, encode_utf8_all, ◌&&◌, ◌==◌}
+use Rattle.std.specs.Prelude.{codes, encode_utf8_all, not, ◌&&◌, ◌==◌}
 use Rattle.std.specs.List.{AllByRecursion, fold}
 use Rattle.std.specs.Option.{IfSome, is_some, option_or}
 use Rattle.std.specs.Str.{chars}
 use Rattle.std.proofs.lemmas.Bool.{cond_both}
 use Rattle.rst_settings.specs.declared.Parts.{Parts}
 use Rattle.rst_text.specs.Block.{Block, first_number, first_text, first_parts}
-use Rattle.rst_tree.specs.Attributes.{attr, value_of, with_attr}
+use Rattle.rst_tree.specs.Attributes.{attr, value_of, with_attr, without_key}
 use Rattle.rst_tree.specs.declared.attrs.Attr.{Attr}
-use Rattle.rst_tree.specs.declared.attrs.Value.TheVariants.{List as Listed, Text as TextValue}
+use Rattle.rst_tree.specs.declared.attrs.Value.TheVariants.{Number, Text as TextValue}
 use Rattle.rst_tree.specs.declared.key.Key.{Key}
-use Rattle.rst_tree.specs.declared.key.Key.TheVariants.{Classes, Format, Uri, XmlSpace}
+use Rattle.rst_tree.specs.declared.key.Key.TheVariants.{Backlinks, Classes, Format, OwnName, TextMessages, Uri, XmlSpace}
 use Rattle.rst_tree.specs.declared.node.Node.{Node}
 use Rattle.rst_tree.specs.declared.node.Node.TheVariants.{Element, Text as Words}
 use Rattle.rst_tree.specs.declared.note.Level.{Level}
 use Rattle.rst_tree.specs.declared.note.Level.TheVariants.{Error, Warning}
 use Rattle.rst_tree.specs.declared.tag.Tag.{Tag}
-use Rattle.rst_tree.specs.declared.tag.Tag.TheVariants.{Admonition, BlockQuote, Caption as CaptionTag, Comment, Figure as FigureTag, Image, Legend, Paragraph, SubstitutionDefinition, Subtitle as SubtitleTag, Title as TitleTag}
+use Rattle.rst_tree.specs.declared.tag.Tag.TheVariants.{Admonition, BlockQuote, Caption as CaptionTag, Class, Comment, Contents, Figure as FigureTag, Image, Legend, Paragraph, SubstitutionDefinition, Subtitle as SubtitleTag, Title as TitleTag, Topic}
 use Rattle.rst_tree.specs.Forest.{bare}
 use Rattle.rst_tree.specs.Nodes.{forest_of}
+use Rattle.rst_tree.specs.Tree.{text_in}
+use Rattle.rst_text.specs.Names.{name_in}
 use Rattle.rst_markup_blocks.specs.declared.forms.Invocation.{Invocation}
 use Rattle.rst_markup_blocks.specs.Partition.{Span}
 use Rattle.rst_markup_directives.specs.Argument.{ArgumentMeaning, title, uri, language, formats, classes}
 use Rattle.rst_markup_directives.specs.declared.found.Content.{Content}
 use Rattle.rst_markup_directives.specs.declared.found.Place.TheVariants.{Substitution}
 use Rattle.rst_markup_directives.specs.declared.kind.ContentKind.{ContentKind}
-use Rattle.rst_markup_directives.specs.declared.kind.ContentKind.TheVariants.{Marked, Verse, Formulas, Quotes}
+use Rattle.rst_markup_directives.specs.declared.kind.ContentKind.TheVariants.{Marked, Verse, Formulas, Classed, Quotes, Entries}
 use Rattle.rst_markup_directives.specs.declared.kind.QuoteClass.{QuoteClass}
 use Rattle.rst_markup_directives.specs.declared.option.OptionName.{OptionName}
-use Rattle.rst_markup_directives.specs.declared.option.OptionName.TheVariants.{Name, Subtitle}
+use Rattle.rst_markup_directives.specs.declared.option.OptionName.TheVariants.{Alt, Name, Subtitle}
 use Rattle.rst_markup_directives.specs.Directive.{Read}
-use Rattle.rst_markup_directives.specs.Kind.{has_blocks, quote_class}
+use Rattle.rst_markup_directives.specs.Call.{is_empty}
+use Rattle.rst_markup_directives.specs.Kind.{has_blocks}
 use Rattle.rst_markup_directives.specs.Message.{fault_level, fault_text}
 use Rattle.rst_markup_directives.specs.Options.{OptionSetting}
 use Rattle.rst_markup_directives.specs.Value.{Meaning}
 use Rattle.rst_markup_directives.specs.Wrong.{Fault, disabled, inside as within, invalid_classes, no_content, not_in_substitution, sidebar_not_here, unknown_directive}
 use Rattle.rst_block_nodes.specs.Admonitions.{title_class}
-use Rattle.rst_block_nodes.specs.Elements.{element_of, preserving, substitution_definition_node, text_nodes}
+use Rattle.rst_block_nodes.specs.Elements.{element_of, plain_node, preserving, substitution_definition_node, text_nodes}
 use Rattle.rst_block_nodes.specs.Options.{body_attrs, given_attrs, image_node, link_attrs, link_chosen, link_meant, linked_by, literal_element, subtitle_chosen, subtitle_meant, with_alt, value_meant, with_value_at, with_choices, with_options, directive_element}
 use Rattle.rst_block_nodes.specs.Readings.{read_nodes, read_notes, subtitled}
 use Rattle.rst_block_nodes.specs.Formulas.{formula, formulas_from, parts_of}
 use Rattle.rst_block_nodes.specs.Sections.{filled}
+use Rattle.rst_block_nodes.specs.TableOfContents.{entries, is_local, table, table_attrs, table_of_contents, titled_table, uncounted, usual_title}
 use Rattle.rst_block_nodes.specs.Targets.{may_replace}
 use Rattle.rst_inline.specs.Elements.{handed_node}
 use Rattle.rst_block_nodes.specs.Texts.{counting}
 use Rattle.rst_block_nodes.specs.Values.{normalized, unescaped}
-use Rattle.rst_block_state.specs.Directives.{closed_by, handed_directive, content_lines, content_nodes, definition_nodes, definition_or_error, directive_by, directive_nodes, element_by, faulty_name, first_paragraph, opened_by, right_nodes, substitution_nodes, text_nodes as text_of_directive, titled_element, titled_start, closed_with, verse_nodes, classed, holding}
+use Rattle.rst_block_state.specs.Directives.{closed_by, handed_directive, content_lines, content_nodes, definition_nodes, definition_or_error, directive_by, directive_nodes, element_by, faulty_name, first_paragraph, opened_by, right_nodes, substitution_nodes, marked_nodes, titled_element, titled_start, closed_with, title_text, verse_nodes, classed, class_nodes, with_words, holding}
 use Rattle.rst_block_state.specs.Figures.{figure_nodes, legend_nodes, message_count}
 use Rattle.rst_block_state.specs.LineRuns.{number_or, verse_lines}
 use Rattle.rst_block_state.specs.Numbered.{just}
 use Rattle.rst_block_state.specs.Texts.{excerpt, joined, lines_in, message_with_lines, span_source, spelled, texted}
 use Rattle.rst_block_state.specs.Within.{Within}
 use Rattle.rst_tree_laws.specs.Texts.{AttrsHave, BlockKept, Kept, ValueHas, becomes_text}
+use Rattle.rst_tree_index.specs.Classes.{classes_of, with_more_classes}
 use Rattle.rst_tree_index.specs.Parsed.{levels_by}
 use Rattle.rst_block_laws.proofs.DirectiveKinds.{FaultHas, ReadHas, called_has}
 use Rattle.rst_block_laws.proofs.DirectiveTexts.{ChoiceHas, NameHas, quoted_has}
@@ -60,11 +65,11 @@ use Rattle.rst_block_laws.proofs.ElementFits.{read_fit}
 use Rattle.rst_block_laws.proofs.MessageFits.{read_notes_fit}
 use Rattle.rst_block_laws.proofs.Fits.{AllFit, Fits, counting_has, definition_fits, filled_fits, fit_forest, fit_more, fit_nodes, message_fits, open_fits}
 use Rattle.rst_block_laws.proofs.Gives.{Gives, after, give, gives}
-use Rattle.rst_tree_laws.proofs.Have.{with_attr_has, without_key_has}
+use Rattle.rst_tree_laws.proofs.Have.{text_in_has, with_attr_has, without_key_has}
 use Rattle.rst_block_laws.proofs.LineFits.{texted_fit, line_block_fits, verse_kept, PairFits}
 use Rattle.rst_block_laws.proofs.LineTexts.{excerpt_has, first_kept, joined_kept, lines_kept, source_has, spelled_has}
 use Rattle.rst_tree_laws.proofs.Lists.{all_append, all_drop, all_take, all_map}
-use Rattle.rst_tree_laws.proofs.Properties.{Suited, fixed_has, normalized_kept, onto_kept, unescaped_kept}
+use Rattle.rst_tree_laws.proofs.Properties.{Suited, fixed_has, name_in_has, normalized_kept, onto_kept, unescaped_kept}
 use Rattle.rst_block_laws.proofs.Weights.{HoldsAny, Open, light_at, open_counts}
 use borrow.Author.Tests.{le-leb}
 
@@ -104,8 +109,8 @@ module _ (P : ℕ → Bool) (T : List ℕ → Type 0) (s : Suited P T) (c : With
   ] h.0.1
 
   image_fits : (address : List ℕ) (choices : List OptionSetting) (line : ℕ) (figure : Bool) (alt : _) → AllByRecursion (ChoiceHas P T s) choices → AttrsHave T (with_alt alt (attr Uri (TextValue address) ∷ [])) → ImageFits (linked_by (link_chosen choices) (image_node address choices line figure alt) line)
-  image_fits address choices line true alt h own = linked_fits choices _ line h (chosen_has _ (elim [ Name ↦ λ m h. h | _ ↦ λ m h. tt ]) choices (with_alt alt (attr Uri (TextValue address) ∷ [])) h own)
-  image_fits address choices line false alt h own = linked_fits choices _ line h (chosen_has _ (elim [ Name ↦ λ m h. h | _ ↦ λ m h. tt ]) choices (with_alt alt (attr Uri (TextValue address) ∷ [])) h own)
+  image_fits address choices line true alt h own = linked_fits choices _ line h (chosen_has _ (elim [ Name ↦ λ m h. h | Alt ↦ λ m h. h | _ ↦ λ m h. tt ]) choices (with_alt alt (attr Uri (TextValue address) ∷ [])) h own)
+  image_fits address choices line false alt h own = linked_fits choices _ line h (chosen_has _ (elim [ Name ↦ λ m h. h | Alt ↦ λ m h. h | _ ↦ λ m h. tt ]) choices (with_alt alt (attr Uri (TextValue address) ∷ [])) h own)
 
   content_kept : (B : Block) (content : Content) → BlockKept P B → BlockKept P (content_lines B content)
   content_kept B content b = all_append _ (lines_in B content.first) (lines_in B content.second) (lines_kept P B content.first b) (lines_kept P B content.second b)
@@ -129,11 +134,11 @@ module _ (P : ℕ → Bool) (T : List ℕ → Type 0) (s : Suited P T) (c : With
       ] (spelled_has P T s _ (content_kept B read.content b))
 
   element_fits : (given : ArgumentMeaning) (alt : Option (List ℕ)) (B : Block) (line : ℕ) (read : Read) → IfSome alt T → BlockKept P B → ReadHas P T s read → ImageFits (element_by given alt B line read)
-  element_fits (uri address) alt B line read t b h = image_fits (encode_utf8_all address) read.options line false alt h.1 (elim alt as (λ alt. AttrsHave T (with_alt alt (attr Uri (TextValue (encode_utf8_all address)) ∷ []))) [ None ↦ (tt, tt) | Some name ↦ (tt, (tt, tt)) ])
+  element_fits (uri address) alt B line read t b h = image_fits (encode_utf8_all address) read.options line false alt h.1 (elim alt as (λ alt. IfSome alt T → AttrsHave T (with_alt alt (attr Uri (TextValue (encode_utf8_all address)) ∷ []))) [ None ↦ λ k. (tt, tt) | Some name ↦ λ k. (k, (tt, tt)) ] t)
   element_fits given alt B line read t b h = literal_fits given B line read b h
 
   -- the text of a directive
-  marked_fits : (parts : Parts) (literal : Bool) (line : ℕ) (read : Read) (text : Block) → BlockKept P text → ReadHas P T s read → Gives (AllFit T (k + 2)) (text_of_directive parts literal line read text)
+  marked_fits : (parts : Parts) (literal : Bool) (line : ℕ) (read : Read) (text : Block) → BlockKept P text → ReadHas P T s read → Gives (AllFit T (k + 2)) (marked_nodes parts literal line read text)
   marked_fits parts literal line read text b h =
       let kept : Kept P (joined text) = joined_kept P T s text b in
       gives (λ n.
@@ -198,7 +203,7 @@ module _ (P : ℕ → Bool) (T : List ℕ → Type 0) (s : Suited P T) (c : With
 
   figure_fit : (figure error : Node) (ns : List Node) → HoldsAny figure → Fits T (k + 2) figure → Fits T (k + 2) error → AllFit T k ns → AllFit T (k + 2) (figure_nodes figure error ns)
   figure_fit figure error (Element Paragraph a content line ∷ ns) any f e h = (
-    filled_fits T figure (Element CaptionTag a content line ∷ legend_nodes (drop (message_count a) ns)) (k + 1) (k + 2) any f ((omega (arith, h.0.0), h.0.1), legend_fit (drop (message_count a) ns) (all_drop _ (message_count a) ns h.1)) (omega arith),
+    filled_fits T figure (Element CaptionTag (without_key Classes a) content line ∷ legend_nodes (drop (message_count a) ns)) (k + 1) (k + 2) any f ((omega (arith, h.0.0), (without_key_has T Classes a h.0.1.0, h.0.1.1)), legend_fit (drop (message_count a) ns) (all_drop _ (message_count a) ns h.1)) (omega arith),
     fit_more T k (k + 2) (take (message_count a) ns) (omega arith) (all_take _ (message_count a) ns h.1),
   )
   figure_fit figure error (Element Comment a bare line ∷ ns) any f e h = (filled_fits T figure (legend_nodes ns) (k + 1) (k + 2) any f (legend_fit ns h.1) (omega arith), tt)
@@ -208,15 +213,35 @@ module _ (P : ℕ → Bool) (T : List ℕ → Type 0) (s : Suited P T) (c : With
   content_fit : (B : Block) (content : Content) → BlockKept P B → Gives (AllFit T k) (content_nodes c B content)
   content_fit B content b = after (inside _ (lines_kept P B content.first b)) (λ nodes low. after (inside _ (lines_kept P B content.second b)) (λ more rest. give (all_append _ nodes more low rest)))
 
-  -- a directive's element with its content, or block quotes with their class
+  -- a directive's element with its content, block quotes with their class, or nodes with the words of `class`
+  classes_have : (more : List (List ℕ)) (a : List Attr) → AttrsHave T a → AttrsHave T (with_more_classes more a)
+  classes_have more a h = with_attr_has T Classes _ _ tt (without_key_has T Classes a h)
+
   classed_fits : (class : QuoteClass) (n : Node) → Fits T k n → Fits T (k + 2) (classed class n)
-  classed_fits class (Element BlockQuote a content line) h = (omega (arith, h.0), (with_attr_has T Classes (Listed (quote_class class ∷ [])) a tt h.1.0, h.1.1))
+  classed_fits class (Element BlockQuote a content line) h = (omega (arith, h.0), (classes_have _ a h.1.0, h.1.1))
   classed_fits class (Element _ a content line) h = (omega (arith, h.0), h.1)
   classed_fits class (Words t) h = (omega (arith, h.0), h.1)
 
-  holding_fit : (content : ContentKind) (t : Tag) (a : List Attr) (line : ℕ) (nodes : List Node) → Open t → AttrsHave T a → AllFit T k nodes → AllFit T (k + 2) (holding content (Element t a bare line) nodes)
-  holding_fit (Quotes class) t a line nodes any own low = all_map (Fits T k) (Fits T (k + 2)) (classed class) (classed_fits class) nodes low
-  holding_fit _ t a line nodes any own low = (open_fits T t a line k (k + 2) nodes any own low (omega arith), tt)
+  words_fit : (words : List (List ℕ)) (n : Node) → Fits T k n → Fits T (k + 2) (with_words words n)
+  words_fit words (Element Class a content line) h = (omega (arith, h.0), h.1)
+  words_fit words (Element _ a content line) h = (omega (arith, h.0), (classes_have words a h.1.0, h.1.1))
+  words_fit words (Words t) h = (omega (arith, h.0), h.1)
+
+  lines_fit : (lines : List ℕ) → T lines → AllFit T 1 (text_nodes lines)
+  lines_fit [] l = tt
+  lines_fit (b ∷ bs) l = ((omega arith, l), tt)
+
+  class_fit : (empty : Bool) (t : Tag) (a : List Attr) (line : ℕ) (lines : List ℕ) (nodes : List Node) → Open t → AttrsHave T a → T lines → AllFit T k nodes → AllFit T (k + 2) (class_nodes empty (Element t a bare line) lines nodes)
+  class_fit true t a line lines nodes any own l low =
+      let element = open_fits T t a line 1 (k + 2) (text_nodes lines) any own (lines_fit lines l) (omega (arith, some)) in
+      (filled_fits T (Element t a (forest_of (text_nodes lines)) line) nodes k (k + 2) any element low (omega arith), tt)
+  class_fit false t a line lines nodes any own l low = all_map (Fits T k) (Fits T (k + 2)) (with_words (classes_of (Element t a bare line))) (words_fit (classes_of (Element t a bare line))) nodes low
+
+  holding_fit : (content : ContentKind) (empty : Bool) (t : Tag) (a : List Attr) (line : ℕ) (lines : List ℕ) (nodes : List Node) → Open t → AttrsHave T a → T lines → AllFit T k nodes
+      → AllFit T (k + 2) (holding content empty (Element t a bare line) lines nodes)
+  holding_fit (Quotes class) empty t a line lines nodes any own l low = all_map (Fits T k) (Fits T (k + 2)) (classed class) (classed_fits class) nodes low
+  holding_fit Classed empty t a line lines nodes any own l low = class_fit empty t a line lines nodes any own l low
+  holding_fit _ empty t a line lines nodes any own l low = (open_fits T t a line k (k + 2) nodes any own low (omega arith), tt)
 
   opened_fits : (a : ArgumentMeaning) (B : Block) (line : ℕ) (read : Read) (lines : List ℕ) → BlockKept P B → ReadHas P T s read → T lines → Gives (AllFit T (k + 2)) (opened_by a c B line read lines)
   opened_fits (title part) B line read lines b h l =
@@ -227,7 +252,7 @@ module _ (P : ℕ → Bool) (T : List ℕ → Type 0) (s : Suited P T) (c : With
       after (content_fit B read.content b) (λ nodes low. give (figure_fit _ _ nodes (λ c. refl) (open_fits T FigureTag _ line 2 (k + 2) (_ ∷ []) (λ c. refl) (chosen_has _ (elim [ Name ↦ λ m h. tt | _ ↦ λ m h. tt ]) read.options [] h.1 tt) (image.0, tt) (omega arith))
       (message_fits T (k + 2) (omega arith) Error line _ (Some lines) (fixed_has P T s _ refl) l) low))
   opened_fits _ B line read lines b h l =
-      after (content_fit B read.content b) (λ nodes low. give (holding_fit read.kind.content read.kind.element _ line nodes h.0 (given_has read.argument _ (body_has read [] h tt)) low))
+      after (content_fit B read.content b) (λ nodes low. give (holding_fit read.kind.content (is_empty read.content) read.kind.element _ line lines nodes h.0 (given_has read.argument _ (body_has read [] h tt)) l low))
 
   -- the line block of a directive
   optioned_fits : (read : Read) (j : ℕ) (n : Node) → ReadHas P T s read → Fits T j n → Fits T j (with_options false read.options n)
@@ -267,10 +292,43 @@ module _ (P : ℕ → Bool) (T : List ℕ → Type 0) (s : Suited P T) (c : With
   argued_fits (title part) B line read b h = marked_fits (first_parts B) false line read _ (lines_kept P B part b) h
   argued_fits a B line read b h = closed_one a B line read b h
 
+  -- a table of contents
+  entries_fit : (read : Read) (line : ℕ) → ReadHas P T s read → Fits T (k + 1) (entries read.options line)
+  entries_fit read line h = open_fits T Contents _ line 0 (k + 1) [] (λ c. refl) (chosen_has _ (elim [ Name ↦ λ m h. tt | _ ↦ λ m h. tt ]) read.options (attr Backlinks (TextValue (codes "entry")) ∷ []) h.1 (tt, tt)) tt (omega arith)
+
+  table_has : (read : Read) (text : List ℕ) (notes : ℕ) → ReadHas P T s read → T text → AttrsHave T (table_attrs read.options text notes)
+  table_has read text notes h t =
+      with_attr_has T TextMessages (Number notes) _ tt (with_attr_has T OwnName (TextValue (name_in text)) _ (name_in_has P T s text t) (with_attr_has T Classes _ _ tt (without_key_has T Classes _ (body_has read [] h tt))))
+
+  table_fits : (read : Read) (nodes : List Node) (text : List ℕ) (notes line : ℕ) → ReadHas P T s read → AllFit T (k + 1) nodes → T text → Fits T (k + 2) (table read.options nodes text notes line)
+  table_fits read nodes text notes line h own t =
+      open_fits T Topic (table_attrs read.options text notes) line (k + 1) (k + 2) (nodes ++ entries read.options line ∷ []) (λ c. refl) (table_has read text notes h t) (all_append (Fits T (k + 1)) nodes (entries read.options line ∷ []) own (entries_fit read line h, tt)) (omega arith)
+
+  uncounted_fits : (j : ℕ) (n : Node) → Fits T j n → Fits T j (uncounted n)
+  uncounted_fits j (Element t a content line) h = (h.0, (without_key_has T TextMessages a h.1.0, h.1.1))
+  uncounted_fits j (Words t) h = h
+
+  contents_fit : (parts : Parts) (text : Option (List ℕ)) (line : ℕ) (read : Read) → IfSome text (Kept P) → ReadHas P T s read → Gives (AllFit T (k + 2)) (table_of_contents parts read.options text line)
+  contents_fit parts None line read t h =
+      let usual : T usual_title = fixed_has P T s usual_title refl in
+      let heading : Fits T (k + 1) (plain_node TitleTag line usual_title) = open_fits T TitleTag [] line 1 (k + 1) (text_nodes usual_title) (λ c. refl) tt ((omega arith, usual), tt) (omega arith) in
+      let nodes = cond_both (not (is_local read.options)) (plain_node TitleTag line usual_title ∷ []) [] (AllFit T (k + 1)) (λ e. (heading, tt)) (λ e. tt) in
+      give_one (table_fits read _ usual_title 0 line h nodes usual)
+  contents_fit parts (Some text) line read t h =
+      let read_title : Gives (PairFits P T s (k + 1) 3) (texted parts TitleTag line text line) = gives (λ n. texted_fit P T s parts (k + 1) 3 (omega arith) (omega arith) TitleTag line text line n (λ c. refl) t) in
+      after read_title (λ (made : Node × List Node) own.
+      let table = table_fits read (uncounted made.0 ∷ []) (text_in made.0) (length made.1) line h (uncounted_fits (k + 1) made.0 own.0, tt) (text_in_has T P s made.0 own.0.1) in
+      give {a = titled_table read.options made.0 (length made.1) line ∷ made.1} (table, fit_more T 3 (k + 2) made.1 (omega arith) own.1))
+
+  title_kept : (given : ArgumentMeaning) (B : Block) → BlockKept P B → IfSome (title_text given B) (Kept P)
+  title_kept (title part) B b = joined_kept P T s (lines_in B part) (lines_kept P B part b)
+  title_kept _ B b = tt
+
   closed_fits : (content : ContentKind) (B : Block) (line : ℕ) (read : Read) → BlockKept P B → ReadHas P T s read → Gives (AllFit T (k + 2)) (closed_with content c.levels B line read)
   closed_fits Marked B line read b h = marked_fits (first_parts B) true line read _ (content_kept B read.content b) h
   closed_fits Verse B line read b h = verse_fits read _ (content_kept B read.content b) h
   closed_fits Formulas B line read b h = give (formulas_fit _ line read _ (parts_kept _ (joined_kept P T s _ (content_kept B read.content b))) h (body_has read preserving h (tt, tt)))
+  closed_fits Entries B line read b h = contents_fit (first_parts B) (title_text read.argument B) line read (title_kept read.argument B b) h
   closed_fits _ B line read b h = argued_fits read.argument B line read b h
 
   right_fits : (B : Block) (line : ℕ) (read : Read) (lines : List ℕ) → BlockKept P B → ReadHas P T s read → T lines → Gives (AllFit T (k + 2)) (right_nodes c B line read lines)

@@ -21,9 +21,9 @@ use Rattle.rst_markup_directives.specs.declared.found.Place.TheVariants.{Top, Su
 use Rattle.rst_markup_directives.specs.declared.kind.Allowed.{Allowed}
 use Rattle.rst_markup_directives.specs.declared.kind.Allowed.TheVariants.{Sections, Beside, Substitution as SubstitutionAlone}
 use Rattle.rst_markup_directives.specs.declared.kind.ArgumentKind.{ArgumentKind}
-use Rattle.rst_markup_directives.specs.declared.kind.ArgumentKind.TheVariants.{Absent, Classes, Language, OptionalTitle}
+use Rattle.rst_markup_directives.specs.declared.kind.ArgumentKind.TheVariants.{Absent, Classes, Language, OptionalClasses, OptionalTitle}
 use Rattle.rst_markup_directives.specs.declared.kind.ContentKind.{ContentKind}
-use Rattle.rst_markup_directives.specs.declared.kind.ContentKind.TheVariants.{Empty, Paragraph}
+use Rattle.rst_markup_directives.specs.declared.kind.ContentKind.TheVariants.{Empty, Entries, Paragraph}
 use Rattle.rst_markup_directives.specs.declared.kind.Kind.{Kind}
 use Rattle.rst_markup_directives.specs.declared.option.OptionName.{OptionName}
 use Rattle.rst_markup_directives.specs.declared.option.OptionName.TheVariants.{File, Subtitle, Url}
@@ -77,7 +77,8 @@ module _ (P : ℕ → Bool) (T : List ℕ → Type 0) (s : Suited P T) where
   argument_has Language [] part h = tt
   argument_has Language (t ∷ ts) part h = cond_both (is_among (normalized_white (joined_nonempty (t ∷ ts))) 32) (Err many_arguments) (Ok (language (Some _))) (Judged P T s ArgumentHas) (λ e. fixed_has P T s _ refl) (λ e. tt)
   argument_has OptionalTitle [] part h = tt
-  argument_has Classes [] part h = tt
+  argument_has OptionalClasses [] part h = tt
+  argument_has OptionalClasses (t ∷ ts) part h = nonempty_kept P T s (t ∷ ts) h
   argument_has Classes (t ∷ ts) part h = nonempty_kept P T s (t ∷ ts) h
   argument_has _ [] part h = fixed_has P T s _ refl
   argument_has _ (t ∷ ts) part h = tt
@@ -114,6 +115,7 @@ module _ (P : ℕ → Bool) (T : List ℕ → Type 0) (s : Suited P T) where
 
   content_has : (kind : ContentKind) (empty paragraph : Bool) → IfSome (option_map fault_in (fault_by kind empty paragraph)) FaultHas
   content_has Empty false paragraph = fixed_has P T s _ refl
+  content_has Entries false paragraph = fixed_has P T s _ refl
   content_has Paragraph false false = fixed_has P T s _ refl
   content_has _ true paragraph = tt
   content_has _ _ paragraph = tt

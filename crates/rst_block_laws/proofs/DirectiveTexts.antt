@@ -83,9 +83,10 @@ module _ (P : ℕ → Bool) (T : List ℕ → Type 0) (s : Suited P T) where
 
   -- ---- options
 
-  -- a name and a subtitle that become texts; other values don't
+  -- a name, an alternate text and a subtitle that become texts; other values don't
   abbrev pub NameHas : OptionName → Meaning → Type 0
   NameHas Name m = ValueHas T true (value_meant m)
+  NameHas Alt m = ValueHas T true (value_meant m)
   NameHas Subtitle m = IfSome (subtitle_meant Subtitle m) (Kept P)
   NameHas _ m = Unit {0}
 
@@ -112,7 +113,7 @@ module _ (P : ℕ → Bool) (T : List ℕ → Type 0) (s : Suited P T) where
       target_has (λ o. IfSome (option_map (λ (m : Meaning). (Target, m)) (option_map (λ to. linked to t) o)) ChoiceHas) t h tt
       (λ name k. (tt, (tt, (s.encoded t h, (s.encoded _ (name_kept P T s name k), tt))))) (λ uri. (tt, (s.encoded t h, (tt, tt))))
   setting_has options (Some Subtitle) t h = cond_both (is_blank t) None (Some t) (λ o. IfSome (option_map (λ (m : Meaning). (Subtitle, m)) (option_map plain o)) ChoiceHas) (λ e. tt) (λ e. (h, tt))
-  setting_has options (Some Alt) t h = (tt, tt)
+  setting_has options (Some Alt) t h = (s.encoded t h, tt)
   setting_has options (Some Inclusion) t h = (tt, tt)
   setting_has options (Some _) t h = paired _ _ _ (λ a. (tt, tt))
 

@@ -15,7 +15,7 @@ use Rattle.rst_block_laws.proofs.BlockFits.{document_fits}
 use Rattle.rst_block_laws.proofs.Fits.{Fits}
 use Rattle.rst_block_laws.proofs.Weights.{node_flat, node_height_weight}
 
-made_parsed : (k : ℕ) (items : Result (List Item × ℕ) ℕ) → k + 11 ≤ most_levels → IfOk (then_read (λ some. just (document_of some)) items) (λ read. Fits (Spells is_text_character) k read.0)
+made_parsed : (k : ℕ) (items : Result (List Item × ℕ) ℕ) → k + 205 ≤ most_levels → IfOk (then_read (λ some. just (document_of some)) items) (λ read. Fits (Spells is_text_character) k read.0)
     → IfOk (then_read (λ some. just (document_of some)) items) (λ read. IsParsed read.0)
 made_parsed k (Ok found) few h =
     record { kind = refl; levels = omega (arith, few, h.0, node_height_weight (document_of found.0)); flat = node_flat k (document_of found.0) h.0 (omega (arith, few)); texts = h.1 }

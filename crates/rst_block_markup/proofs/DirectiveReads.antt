@@ -6,18 +6,19 @@ use Rattle.rst_text.specs.Looked.{capped}
 use Rattle.rst_tree.specs.declared.node.Node.{Node}
 use Rattle.rst_markup_blocks.specs.declared.part.Part.{Part}
 use Rattle.rst_markup_directives.specs.Argument.{ArgumentMeaning, nothing, given_in}
+use Rattle.rst_markup_directives.specs.Call.{is_empty}
 use Rattle.rst_markup_directives.specs.Directive.{Read}
 use Rattle.rst_markup_directives.specs.Kind.{has_blocks}
 use Rattle.rst_markup_directives.specs.Options.{choices_in}
 use Rattle.rst_markup_directives.specs.declared.argument.Argument.{Argument}
 use Rattle.rst_markup_directives.specs.declared.argument.Argument.TheVariants.{Title, Uri}
 use Rattle.rst_markup_directives.specs.declared.kind.ContentKind.{ContentKind}
-use Rattle.rst_markup_directives.specs.declared.kind.ContentKind.TheVariants.{Quotes}
+use Rattle.rst_markup_directives.specs.declared.kind.ContentKind.TheVariants.{Classed, Quotes}
 use Rattle.rst_markup_directives.specs.declared.kind.QuoteClass.{QuoteClass}
 use Rattle.rst_markup_directives.specs.declared.options.Setting.{Setting}
 use Rattle.rst_block_nodes.specs.Options.{directive_element, figure_element, image_element}
 use Rattle.rst_block_nodes.specs.Sections.{filled}
-use Rattle.rst_block_state.specs.Directives.{closed_nodes, content_nodes, holding, titled_nodes, titled_start, plain_nodes, figure_of, opened_by}
+use Rattle.rst_block_state.specs.Directives.{class_nodes, closed_nodes, content_nodes, holding, titled_nodes, titled_start, plain_nodes, figure_of, opened_by}
 use Rattle.rst_block_state.specs.Figures.{caption_error, figure_nodes}
 use Rattle.rst_block_state.specs.Inside.{content_blocks}
 use Rattle.rst_block_markup.specs.MarkupSteps.{IsDirectiveRead, IsOpenedRead, made_of_content, marked_text, read_of_directive, reads_with}
@@ -107,18 +108,26 @@ titled_comes old new B read lines end n m line at node s h l e a moved =
     ∙ ap (λ r. then_read (λ ns. reads_from old B ns end) (then_read (λ start. content_nodes c B read.content >>= λ ns. just (filled start ns ∷ [])) r)) (sym h)
     ∙ ap (λ k. reads_with old B (titled_nodes c B k read lines) end n) l
 
--- a content without a class is held by the directive's element
-pub held : (content : ContentKind) (element : Node) (ns : List Node) → ((class : QuoteClass) → content ≡ Quotes class → ⊥) → holding content element ns ≡ filled element ns ∷ []
-held (Quotes class) element ns none = absurd (none class refl)
-held _ element ns none = refl
+-- a content that gets no classes is held by the directive's element
+pub held : (content : ContentKind) (empty : Bool) (element : Node) (lines : List ℕ) (ns : List Node) → ((class : QuoteClass) → content ≡ Quotes class → ⊥) → (content ≡ Classed → ⊥)
+    → holding content empty element lines ns ≡ filled element ns ∷ []
+held (Quotes class) empty element lines ns quotes classed = absurd (quotes class refl)
+held Classed empty element lines ns quotes classed = absurd (classed refl)
+held _ empty element lines ns quotes classed = refl
 
-pub plain_comes : (old new : OpenBlock) (B : Block) (read : Read) (end n at : ℕ) (w : Waits) (s : Step)
-    → ((ns : List Node) → resumed new B w ns ≡ reads_from new B (holding read.kind.content (directive_element read.kind.element read.argument read.options at) ns) new.at)
+-- what `class` leaves
+pub class_held : (content : ContentKind) (empty given : Bool) (element : Node) (lines : List ℕ) (ns : List Node) → content ≡ Classed → empty ≡ given
+    → holding content empty element lines ns ≡ class_nodes given element lines ns
+class_held content empty given element lines ns is same =
+    ap (λ k. holding k empty element lines ns) is ∙ ap (λ b. class_nodes b element lines ns) same
+
+pub plain_comes : (old new : OpenBlock) (B : Block) (read : Read) (lines : List ℕ) (end n at : ℕ) (w : Waits) (s : Step)
+    → ((ns : List Node) → resumed new B w ns ≡ reads_from new B (holding read.kind.content (is_empty read.content) (directive_element read.kind.element read.argument read.options at) lines ns) new.at)
     → s ≡ Open w read.content.first (Some read.content.second) → new.at ≡ end → IsMoved old new
-    → comes new B s n ≡ reads_with old B (plain_nodes (within_at old.depth) B at read) end n
-plain_comes old new B read end n at w s waits e a moved =
+    → comes new B s n ≡ reads_with old B (plain_nodes (within_at old.depth) B at read lines) end n
+plain_comes old new B read lines end n at w s waits e a moved =
     ap (λ s. comes new B s n) e
-    ∙ content_comes B w read.content (holding read.kind.content (directive_element read.kind.element read.argument read.options at)) n moved a waits
+    ∙ content_comes B w read.content (holding read.kind.content (is_empty read.content) (directive_element read.kind.element read.argument read.options at) lines) n moved a waits
 
 -- ---- elements
 

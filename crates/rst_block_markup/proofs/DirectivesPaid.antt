@@ -19,7 +19,7 @@ use Rattle.rst_markup_directives.specs.declared.found.Directive.{Directive}
 use Rattle.rst_markup_directives.specs.declared.found.Directive.TheVariants.{Found as FoundDirective, Handed as HandedDirective, Wrong as WrongDirective}
 use Rattle.rst_markup_directives.specs.declared.found.Place.{Place}
 use Rattle.rst_markup_directives.specs.declared.kind.ArgumentKind.{ArgumentKind}
-use Rattle.rst_markup_directives.specs.declared.kind.ArgumentKind.TheVariants.{Absent as NoArgument, Title as TitleArgument, OptionalTitle, Uri as UriArgument, Language as LanguageArgument, Formats as FormatsArgument, Classes as ClassesArgument}
+use Rattle.rst_markup_directives.specs.declared.kind.ArgumentKind.TheVariants.{Absent as NoArgument, Title as TitleArgument, OptionalTitle, Uri as UriArgument, Language as LanguageArgument, Formats as FormatsArgument, Classes as ClassesArgument, OptionalClasses}
 use Rattle.rst_markup_directives.specs.declared.kind.Kind.{Kind}
 use Rattle.rst_block_state.specs.Directives.{called, is_handed_at}
 use Rattle.rst_block_state.specs.looks.Ledger.{argument_lines}
@@ -86,6 +86,7 @@ argument_short n UriArgument ts block to h = uri_short n ts
 argument_short n LanguageArgument ts block to h = language_short n ts
 argument_short n FormatsArgument [] block to h = tt
 argument_short n ClassesArgument [] block to h = tt
+argument_short n OptionalClasses [] block to h = tt
 argument_short n _ (t ∷ ts) block to h = tt
 
 parts_short : (n : ℕ) (kind : Kind) (content : Content) (given : Result ArgumentMeaning Wrong) (choices : Result (List OptionSetting) Wrong) → MayBeShort n given → IsContentShort n content

@@ -1,4 +1,5 @@
-//! Directives that hold no blocks: images and texts (Directives, 'Image', 'Code', 'Rubric', 'Line Block', 'Parsed Literal Block', 'Math').
+//! Directives that hold no blocks: images and texts (Directives, 'Image', 'Code', 'Rubric', 'Line Block', 'Parsed Literal Block', 'Math',
+//! 'Table of Contents').
 ghost use Rattle.std.specs.Prelude.{◌≡◌, suc, ◌+◌, ◌-◌, ◌<◌, ◌∷◌, ◌++◌, length, string_bytes, drop, option_map, Ok, IfOk};
 ghost use Rattle.std.specs.Str.{chars};
 ghost use Rattle.rst_text.specs.Block.{Block, Line, first_number};
@@ -12,6 +13,7 @@ ghost use Rattle.rst_markup_directives.specs.Call.{IsArgumentIn, IsContentIn};
 ghost use Rattle.rst_block_state.specs.machine.OpenBlocks.{Gives};
 ghost use Rattle.rst_block_state.specs.Texts.{spelled};
 
+use super::contents::contents_nodes;
 use super::directive::Found;
 use rst_block_nodes::{
     BarText, append, formulas, image, line_block, literal_block, with_options, with_text,
@@ -53,6 +55,7 @@ pub(crate) fn closed_nodes(
             let options = found.options.as_slice();
             Ok(formulas(alloc, found.kind.element, options, text.as_str(), line)?)
         }
+        ContentKind::Entries => contents_nodes(view, line, found, pass),
         _ => closed_by(view, line, found, pass),
     }
 }

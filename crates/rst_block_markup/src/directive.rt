@@ -21,6 +21,7 @@ ghost use Rattle.rst_block_state.specs.declared.texts.Pass.{Pass};
 ghost use Rattle.rst_block_state.specs.looks.Ledger.{unread_at};
 ghost use Rattle.rst_block_state.specs.Inside.{directive_blocks};
 
+use super::classes::class_block;
 use super::closed::closed_nodes;
 use super::explicit::put;
 use super::single::is_single_paragraph;
@@ -237,7 +238,7 @@ fn directive_nodes(
     match &found.argument {
         Argument::Title(title) => titled_block(view, level, found, *title, pass),
         Argument::Uri(uri) => figure_block(pass.alloc, view, level, found, uri.as_str()),
-        _ => plain_block(pass.alloc, view, level, found),
+        _ => plain_block(view, level, found, pass),
     }
 }
 
@@ -297,18 +298,26 @@ fn titled_start(lines: &View<'_>, line: usize, found: &Found, pass: &mut Pass) -
     Ok(filled(node, nodes)?)
 }
 
-/// A directive without a title: its element, or block quotes.
-fn plain_block(alloc: Global, view: &View<'_>, level: &mut OpenBlock, found: &Found) -> Result<Step>
+/// A directive without a title: its element, block quotes, or nodes that get classes.
+fn plain_block(
+    view: &View<'_>,
+    level: &mut OpenBlock,
+    found: &Found,
+    pass: &mut Pass,
+) -> Result<Step>
     requires { IsRight (block_of view.now) level.old.at found.now }
-    ensures { (pass : Pass) → IsOpenedRead 0 (block_of view.now) level.old pass found.now given.nothing level.new pass result }
+    ensures { let few = found.now.end - level.old.at in
+        IsOpenedRead few (block_of view.now) level.old pass.old found.now given.nothing level.new pass.new result }
 {
-    if let ContentKind::Quotes(class) = found.kind.content {
-        return Ok(opened(level, Waits::Quotes(class), found));
+    match found.kind.content {
+        ContentKind::Quotes(class) => return Ok(opened(level, Waits::Quotes(class), found)),
+        ContentKind::Classed => return class_block(view, level, found, pass),
+        _ => {}
     }
     let line = number_at(view, level.at);
     let element = found.kind.element;
     let options = found.options.as_slice();
-    let node = directive_element(alloc, element, &found.argument, options, line)?;
+    let node = directive_element(pass.alloc, element, &found.argument, options, line)?;
     Ok(opened(level, Waits::Element(node), found))
 }
 
@@ -338,7 +347,7 @@ fn figure_block(
 }
 
 /// Opens the content of a directive, for whose nodes its block waits.
-fn opened(level: &mut OpenBlock, waits: Waits, found: &Found) -> Step
+pub(crate) fn opened(level: &mut OpenBlock, waits: Waits, found: &Found) -> Step
     requires later { level.old.at < found.now.end }
     ensures opened { result ≡ Open waits found.now.content.first (Some found.now.content.second) }
     ensures at { level.new.at ≡ found.now.end }

@@ -91,11 +91,12 @@ fn content_start(node: Node) -> ContentStart
     match node {
         Node::Element {
             tag: Tag::Paragraph,
-            attrs,
+            mut attrs,
             children,
             line,
         } => {
             let count = attrs.number(Key::TextMessages).unwrap_or(0);
+            attrs.remove(Key::Classes);
             let caption = Node::Element {
                 tag: Tag::Caption,
                 attrs,

@@ -1,7 +1,9 @@
 //! Explicit markup: footnotes, citations, targets, comments, substitution definitions, and directives with their figures.
 #![tactic(auto)]
 
+mod classes;
 mod closed;
+mod contents;
 mod directive;
 mod explicit;
 mod figure;
@@ -9,6 +11,7 @@ mod quotes;
 mod single;
 mod substitution;
 
+pub use classes::finished_classes;
 pub use explicit::explicit_markup;
 pub use figure::finished_figure;
 pub use quotes::finished_quotes;

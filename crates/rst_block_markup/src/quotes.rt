@@ -36,5 +36,5 @@ fn classed(alloc: Global, class: QuoteClass, node: Marked) -> Result<Marked, All
     };
     let mut classes = Texts::new(alloc);
     classes.push(Text::from_str(alloc, class.name())?)?;
-    node.with_classes(classes)
+    node.with_classes(alloc, classes.as_slice())
 }

@@ -9,3 +9,4 @@ pub mod LineBlockLemmas
 pub mod ReadingBridges
 pub mod SectionLemmas
 pub mod FormulaLemmas
+pub mod ContentsLemmas

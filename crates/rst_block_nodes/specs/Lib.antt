@@ -9,6 +9,7 @@ pub mod Formulas
 pub mod Terms
 pub mod Numbered
 pub mod Readings
+pub mod TableOfContents
 pub mod LineBlocks
 pub mod Whole
 pub mod Sections

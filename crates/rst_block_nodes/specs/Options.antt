@@ -1,5 +1,5 @@
 -- What the options of directives do to elements (Directives, 'Common Options', 'Image', 'Figure', 'Sidebar', 'Code', 'Rubric', 'Parsed
--- Literal Block', 'Raw Data Pass-Through', 'Container').
+-- Literal Block', 'Raw Data Pass-Through', 'Container', 'Table of Contents').
 use Rattle.std.specs.Prelude.{ℕ, Bool, if◌then◌else◌, List, [], ◌∷◌, ◌++◌, map, codes, Option, Some, None, option_map, encode_utf8_all}
 use Rattle.std.specs.Option.{option_or, option_to_list}
 use Rattle.std.specs.Str.{chars}
@@ -12,21 +12,22 @@ use Rattle.rst_tree.specs.declared.attrs.Attr.{Attr}
 use Rattle.rst_tree.specs.declared.attrs.Value.{Value}
 use Rattle.rst_tree.specs.declared.attrs.Value.TheVariants.{Text as TextValue, Number, List as Listed}
 use Rattle.rst_tree.specs.declared.key.Key.{Key}
-use Rattle.rst_tree.specs.declared.key.Key.TheVariants.{Align, Alt, Classes, Format, Height, Name, OwnName, Rawsource, Refname, Refuri, Scale, Uri, Width, XmlSpace}
+use Rattle.rst_tree.specs.declared.key.Key.TheVariants.{Align, Alt, Backlinks, Classes, Depth, Format, Height, Local, Name, OwnName, Rawsource, Refname, Refuri, Scale, Uri, Width, XmlSpace}
 use Rattle.rst_tree.specs.declared.node.Node.{Node}
 use Rattle.rst_tree.specs.declared.node.Node.TheVariants.{Element, Text as Words}
 use Rattle.rst_tree.specs.declared.tag.Tag.{Tag}
 use Rattle.rst_tree.specs.declared.tag.Tag.TheVariants.{Figure as FigureTag, Image as ImageTag, Reference}
 use Rattle.rst_markup_directives.specs.Argument.{ArgumentMeaning, language, formats, classes}
+use Rattle.rst_markup_directives.specs.Contents.{backlinks_name}
 use Rattle.rst_markup_directives.specs.Options.{OptionSetting}
 use Rattle.rst_markup_directives.specs.Target.{Destination, named, located}
-use Rattle.rst_markup_directives.specs.Value.{Meaning, plain, measured, numbered, placed, classed, linked, called}
+use Rattle.rst_markup_directives.specs.Value.{Meaning, plain, measured, numbered, placed, classed, linked, called, led_back}
 use Rattle.rst_markup_directives.specs.declared.measure.Alignment.{Alignment}
 use Rattle.rst_markup_directives.specs.declared.measure.Alignment.TheVariants.{Top, Middle, Bottom, Left, Center, Right}
 use Rattle.rst_markup_directives.specs.declared.option.OptionName.{OptionName}
-use Rattle.rst_markup_directives.specs.declared.option.OptionName.TheVariants.{Alt as AltOption, Height as HeightOption, Width as WidthOption, Scale as ScaleOption, Align as AlignOption, Class as ClassOption, Name as NameOption, FigureWidth, FigureClass, Subtitle}
+use Rattle.rst_markup_directives.specs.declared.option.OptionName.TheVariants.{Alt as AltOption, Height as HeightOption, Width as WidthOption, Scale as ScaleOption, Align as AlignOption, Class as ClassOption, Name as NameOption, FigureWidth, FigureClass, Subtitle, Depth as DepthOption, Local as LocalOption, Backlinks as BacklinksOption}
 use Rattle.rst_block_nodes.specs.declared.settings.Holder.{Holder}
-use Rattle.rst_block_nodes.specs.declared.settings.Holder.TheVariants.{Image, FigureImage, Figure, Body, Further}
+use Rattle.rst_block_nodes.specs.declared.settings.Holder.TheVariants.{Image, FigureImage, Figure, Body, Further, Entries}
 use Rattle.rst_block_nodes.specs.Elements.{element_of, preserving, text_nodes}
 
 -- ---- options as attributes
@@ -37,6 +38,10 @@ option_key Figure AlignOption = Some Align
 option_key Figure FigureWidth = Some Width
 option_key Figure FigureClass = Some Classes
 option_key Figure _ = None
+option_key Entries DepthOption = Some Depth
+option_key Entries LocalOption = Some Local
+option_key Entries BacklinksOption = Some Backlinks
+option_key Entries _ = None
 option_key _ ClassOption = Some Classes
 option_key Further _ = None
 option_key _ NameOption = Some OwnName
@@ -66,6 +71,7 @@ value_meant (placed alignment) = TextValue (alignment_name alignment)
 value_meant (classed ids) = Listed (map encode_utf8_all ids)
 value_meant (linked to source) = TextValue (encode_utf8_all source)
 value_meant (called name) = TextValue (encode_utf8_all name)
+value_meant (led_back backlinks) = TextValue (backlinks_name backlinks)
 
 -- attributes with a value, if there is a key for it
 abbrev pub with_value_at : Option Key → Value → List Attr → List Attr

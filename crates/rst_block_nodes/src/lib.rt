@@ -4,6 +4,7 @@
 #![tactic(auto)]
 
 mod contents;
+mod contents_table;
 mod directives;
 mod fault;
 mod formula;
@@ -26,6 +27,7 @@ mod texted;
 mod values;
 
 pub use contents::{append, completed, filled};
+pub use contents_table::table_of_contents;
 pub use directives::{
     directive_element, handed_directive, literal_block, subtitle, with_options, with_title_class,
 };
@@ -38,7 +40,7 @@ pub use laws::texts_are_read;
 pub use line_blocks::{BarText, line_block};
 pub use lists::{bullet_list, enumerated_list, option, start_message};
 pub use messages::message;
-pub use nodes::{element_of, plain, preserved};
+pub use nodes::{element_of, plain, preserved, text_nodes};
 pub use numbers::Numbers;
 pub use sectioning::document;
 pub use tables::{entry, tgroup};

@@ -19,7 +19,9 @@ pub fn element_of(tag: Tag, attrs: Attrs, nodes: Vec<Node>, line: usize) -> Node
 }
 
 /// The nodes of a text without markup: none where it is empty.
-pub(crate) fn text_nodes(alloc: Global, text: &str) -> Result<Vec<Node>>
+///
+/// The only refusal is [`AllocError`].
+pub fn text_nodes(alloc: Global, text: &str) -> Result<Vec<Node>>
     ensures { IfOk result (λ nodes. nodes.items ≡ text_nodes text.now) }
 {
     let mut nodes = Vec::new(alloc);

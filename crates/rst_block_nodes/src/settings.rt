@@ -22,6 +22,8 @@ pub(crate) enum Holder {
     Body,
     /// A further element of one directive, which doesn't get the name.
     Further,
+    /// The place of the entries of a table of contents.
+    Entries,
 }
 
 /// Sets the attributes that the options of an element's directive ask for.
@@ -39,6 +41,10 @@ pub(crate) fn set_options(
             (Holder::Figure, OptionName::FigureWidth) => Key::Width,
             (Holder::Figure, OptionName::FigureClass) => Key::Classes,
             (Holder::Figure, _) => continue,
+            (Holder::Entries, OptionName::Depth) => Key::Depth,
+            (Holder::Entries, OptionName::Local) => Key::Local,
+            (Holder::Entries, OptionName::Backlinks) => Key::Backlinks,
+            (Holder::Entries, _) => continue,
             (_, OptionName::Class) => Key::Classes,
             (Holder::Further, _) => continue,
             (_, OptionName::Name) => Key::OwnName,
@@ -73,5 +79,6 @@ fn value_of(alloc: Global, value: &OptionValue) -> Result<Value>
         OptionValue::Classes(classes) => list_of_texts(alloc, classes),
         OptionValue::Link { source, .. } => text_value(alloc, source.as_str()),
         OptionValue::Name(name) => text_value(alloc, name.as_str()),
+        OptionValue::Backlinks(backlinks) => text_value(alloc, backlinks.name()),
     }
 }

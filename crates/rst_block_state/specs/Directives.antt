@@ -1,23 +1,22 @@
 -- Directives, and substitution definitions, which hold directives (Markup Specification, 'Directives', 'Substitution Definitions'; Directives,
 -- 'Admonitions', 'Images', 'Topic', 'Sidebar', 'Epigraph', 'Highlights', 'Pull-Quote', 'Code', 'Rubric', 'Parsed Literal Block', 'Line Block', 'Math',
--- 'Raw Data Pass-Through', 'Compound Paragraph', 'Container', 'Replacement Text').
+-- 'Raw Data Pass-Through', 'Compound Paragraph', 'Container', 'Table of Contents', 'Class', 'Replacement Text').
 use Rattle.std.specs.Prelude.{ℕ, Bool, true, false, List, [], ◌∷◌, ◌++◌, map, drop, codes, Option, Some, None, encode_utf8_all, if◌then◌else◌}
 use Rattle.rst_settings.specs.Parts.{hands_directive}
 use Rattle.rst_settings.specs.declared.Parts.{Parts}
 use Rattle.rst_text.specs.Block.{Block, first_text, first_number, first_parts}
-use Rattle.rst_tree.specs.Attributes.{with_attr}
 use Rattle.rst_tree.specs.Forest.{Forest}
 use Rattle.rst_tree.specs.Nodes.{nodes_of}
-use Rattle.rst_tree.specs.declared.attrs.Value.TheVariants.{List as Listed}
-use Rattle.rst_tree.specs.declared.key.Key.TheVariants.{Classes}
 use Rattle.rst_tree.specs.declared.node.Node.{Node}
 use Rattle.rst_tree.specs.declared.node.Node.TheVariants.{Element, Text}
 use Rattle.rst_tree.specs.declared.note.Level.TheVariants.{Error, Warning}
 use Rattle.rst_tree.specs.declared.tag.Tag.{Tag}
-use Rattle.rst_tree.specs.declared.tag.Tag.TheVariants.{Admonition, BlockQuote, Paragraph, Title as TitleTag}
+use Rattle.rst_tree.specs.declared.tag.Tag.TheVariants.{Admonition, BlockQuote, Class, Paragraph, Title as TitleTag}
+use Rattle.rst_tree_index.specs.Classes.{classes_of, with_classes}
 use Rattle.rst_markup_blocks.specs.Partition.{Span}
 use Rattle.rst_markup_blocks.specs.declared.forms.Invocation.{Invocation}
 use Rattle.rst_markup_directives.specs.Argument.{ArgumentMeaning, title, uri}
+use Rattle.rst_markup_directives.specs.Call.{is_empty}
 use Rattle.rst_markup_directives.specs.Directive.{Read, Outcome, found, handed, wrong, directive_at}
 use Rattle.rst_markup_directives.specs.Kind.{has_blocks, quote_class}
 use Rattle.rst_markup_directives.specs.Message.{fault_level, fault_text}
@@ -26,11 +25,12 @@ use Rattle.rst_markup_directives.specs.declared.found.Content.{Content}
 use Rattle.rst_markup_directives.specs.declared.found.Place.{Place}
 use Rattle.rst_markup_directives.specs.declared.found.Place.TheVariants.{Top, Body, Substitution}
 use Rattle.rst_markup_directives.specs.declared.kind.ContentKind.{ContentKind}
-use Rattle.rst_markup_directives.specs.declared.kind.ContentKind.TheVariants.{Marked, Verse, Formulas, Quotes}
+use Rattle.rst_markup_directives.specs.declared.kind.ContentKind.TheVariants.{Marked, Verse, Formulas, Classed, Quotes, Entries}
 use Rattle.rst_markup_directives.specs.declared.kind.QuoteClass.{QuoteClass}
 use Rattle.rst_block_nodes.specs.Admonitions.{with_title_class}
-use Rattle.rst_block_nodes.specs.Elements.{substitution_definition_node}
+use Rattle.rst_block_nodes.specs.Elements.{substitution_definition_node, text_nodes}
 use Rattle.rst_block_nodes.specs.Formulas.{formulas}
+use Rattle.rst_block_nodes.specs.TableOfContents.{table_of_contents}
 use Rattle.rst_block_nodes.specs.Targets.{may_replace}
 use Rattle.rst_block_nodes.specs.Values.{normalized, unescaped}
 use Rattle.rst_block_nodes.specs.Sections.{filled}
@@ -92,19 +92,31 @@ titled_nodes c B line read lines = do
 
 -- a block quote with the class of its directive; another node stays as it is
 abbrev pub classed : QuoteClass → Node → Node
-classed class (Element BlockQuote a content line) = Element BlockQuote (with_attr Classes (Listed (quote_class class ∷ [])) a) content line
+classed class (Element BlockQuote a content line) = with_classes (quote_class class ∷ []) (Element BlockQuote a content line)
 classed class node = node
 
--- the element of a directive with the nodes of its content; or these nodes alone, the block quotes among them with their class
-abbrev pub holding : ContentKind → Node → List Node → List Node
-holding (Quotes class) element nodes = map (classed class) nodes
-holding _ element nodes = filled element nodes ∷ []
+-- a node of the content of the directive `class` with these words after its classes; the words of such a directive in it stay its own
+abbrev pub with_words : List (List ℕ) → Node → Node
+with_words words (Element Class a content line) = Element Class a content line
+with_words words node = with_classes words node
 
--- a directive without a title, and its content
-abbrev pub plain_nodes : Within → Block → ℕ → Read → Numbered (List Node)
-plain_nodes c B line read = do
+-- The directive `class`, by the element that has its words: the nodes of its content, each with these words. Without content, which gives no nodes, the
+-- element itself stays, with these lines; a transform takes it out again.
+abbrev pub class_nodes : Bool → Node → List ℕ → List Node → List Node
+class_nodes empty element lines nodes = if empty then filled (filled element (text_nodes lines)) nodes ∷ [] else map (with_words (classes_of element)) nodes
+
+-- the element of a directive with the nodes of its content; or these nodes alone, the block quotes among them with their class, or all of them with
+-- the words of `class`
+abbrev pub holding : ContentKind → Bool → Node → List ℕ → List Node → List Node
+holding (Quotes class) empty element lines nodes = map (classed class) nodes
+holding Classed empty element lines nodes = class_nodes empty element lines nodes
+holding _ empty element lines nodes = filled element nodes ∷ []
+
+-- a directive without a title, with these lines, and its content
+abbrev pub plain_nodes : Within → Block → ℕ → Read → List ℕ → Numbered (List Node)
+plain_nodes c B line read lines = do
   nodes ← content_nodes c B read.content
-  just (holding read.kind.content (directive_element read.kind.element read.argument read.options line) nodes)
+  just (holding read.kind.content (is_empty read.content) (directive_element read.kind.element read.argument read.options line) lines nodes)
 
 -- a figure: its image, and its content as caption and legend; an ERROR on it shows these lines
 abbrev pub figure_of : Within → Block → ℕ → Read → List ℕ → List ℕ → Numbered (List Node)
@@ -118,8 +130,8 @@ abbrev pub content_lines : Block → Content → Block
 content_lines B content = lines_in B content.first ++ lines_in B content.second
 
 -- a directive whose text, of these lines, has inline markup, and the messages on the text
-abbrev pub text_nodes : Parts → Bool → ℕ → Read → Block → Numbered (List Node)
-text_nodes parts literal line read lines = do
+abbrev pub marked_nodes : Parts → Bool → ℕ → Read → Block → Numbered (List Node)
+marked_nodes parts literal line read lines = do
   made ← texted parts read.kind.element line (joined lines) line
   just (with_options literal read.options made.0 ∷ made.1)
 
@@ -127,7 +139,7 @@ text_nodes parts literal line read lines = do
 abbrev pub opened_by : ArgumentMeaning → Within → Block → ℕ → Read → List ℕ → Numbered (List Node)
 opened_by (title part) c B line read lines = titled_nodes c B line read (lines_in B part)
 opened_by (uri address) c B line read lines = figure_of c B line read (encode_utf8_all address) lines
-opened_by _ c B line read lines = plain_nodes c B line read
+opened_by _ c B line read lines = plain_nodes c B line read lines
 
 -- a directive without blocks and markup: an image, which may have an alternate text unless its options have one, or a literal
 abbrev pub element_by : ArgumentMeaning → Option (List ℕ) → Block → ℕ → Read → Node
@@ -136,7 +148,7 @@ element_by given alt B line read = literal_element read.kind.element given read.
 
 -- a directive that holds neither blocks nor markup, by its argument: a title without content is the text of its element
 abbrev pub closed_by : ArgumentMeaning → Block → ℕ → Read → Numbered (List Node)
-closed_by (title part) B line read = text_nodes (first_parts B) false line read (lines_in B part)
+closed_by (title part) B line read = marked_nodes (first_parts B) false line read (lines_in B part)
 closed_by given B line read = just (element_by given None B line read ∷ [])
 
 -- the line block of a directive with these lines, and the messages on them, where this many line blocks may be nested
@@ -145,12 +157,18 @@ verse_nodes levels read lines = do
   made ← line_block levels (verse_lines 0 lines)
   just (with_options false read.options made.0 ∷ made.1)
 
--- a directive that holds no blocks, by its content: marked text, verse, formulas, or another or none
+-- the text of an argument that is a title
+abbrev pub title_text : ArgumentMeaning → Block → Option (List ℕ)
+title_text (title part) B = Some (joined (lines_in B part))
+title_text _ B = None
+
+-- a directive that holds no blocks, by its content: marked text, verse, formulas, the entries of a table of contents, or another or none
 abbrev pub closed_with : ContentKind → ℕ → Block → ℕ → Read → Numbered (List Node)
-closed_with Marked levels B line read = text_nodes (first_parts B) true line read (content_lines B read.content)
+closed_with Marked levels B line read = marked_nodes (first_parts B) true line read (content_lines B read.content)
 closed_with Verse levels B line read = verse_nodes levels read (content_lines B read.content)
 closed_with Formulas levels B line read =
     just (formulas read.kind.element read.options line (joined (content_lines B read.content)))
+closed_with Entries levels B line read = table_of_contents (first_parts B) read.options (title_text read.argument B) line
 closed_with _ levels B line read = closed_by read.argument B line read
 
 -- a directive that holds no blocks

@@ -1,9 +1,9 @@
 -- Figures with their captions and legends (Directives, 'Figure'; Document Tree, 'figure').
 use Rattle.std.specs.Prelude.{ℕ, List, [], ◌∷◌, drop, take, codes, unwrap_or}
-use Rattle.rst_tree.specs.Attributes.{as_number, value_of}
+use Rattle.rst_tree.specs.Attributes.{as_number, value_of, without_key}
 use Rattle.rst_tree.specs.Forest.{Forest, bare}
 use Rattle.rst_tree.specs.declared.attrs.Attr.{Attr}
-use Rattle.rst_tree.specs.declared.key.Key.TheVariants.{TextMessages}
+use Rattle.rst_tree.specs.declared.key.Key.TheVariants.{Classes, TextMessages}
 use Rattle.rst_tree.specs.declared.node.Node.{Node}
 use Rattle.rst_tree.specs.declared.node.Node.TheVariants.{Element, Text}
 use Rattle.rst_tree.specs.declared.note.Level.TheVariants.{Error}
@@ -29,9 +29,9 @@ abbrev pub comment_beginning : Forest → Beginning
 comment_beginning bare = no_caption
 comment_beginning _ = neither
 
--- an element at the beginning: a paragraph is the caption
+-- an element at the beginning: a paragraph is the caption, which has no classes
 abbrev pub element_beginning : Tag → List Attr → Forest → ℕ → Beginning
-element_beginning Paragraph a content line = caption (Element Caption a content line) (message_count a)
+element_beginning Paragraph a content line = caption (Element Caption (without_key Classes a) content line) (message_count a)
 element_beginning Comment a content line = comment_beginning content
 element_beginning _ a content line = neither
 

@@ -2,6 +2,7 @@
 //! it with the tree that is written out beside it.
 
 pub mod blocks;
+pub mod contents;
 pub mod directives;
 pub mod explicit;
 pub mod handed;

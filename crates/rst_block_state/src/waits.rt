@@ -31,6 +31,8 @@ pub enum Waits {
     Element(Node),
     /// They are block quotes, which get this class, and messages.
     Quotes(QuoteClass),
+    /// They get the classes of this element, which isn't in the tree.
+    Classes(Node),
     /// They are the caption and the legend of a figure, which has its image. Its lines are those from place `start` up to
     /// place `end`.
     Figure {

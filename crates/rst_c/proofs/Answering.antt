@@ -15,7 +15,9 @@ use Rattle.rst_text.specs.Text.{text_of}
 use Rattle.rst_tree.specs.declared.node.Node.{Node}
 use Rattle.rst_tree.specs.declared.note.Note.{Note}
 use Rattle.rst2pseudoxml_options.specs.declared.format.Format.TheVariants.{PseudoXml}
-use Rattle.rst2pseudoxml_run.specs.Reading.{held, lines_under, read_of}
+use Rattle.rst_transform.specs.declared.finishing.Finished.{Finished}
+use Rattle.rst_transform.specs.Finishing.{leaves}
+use Rattle.rst2pseudoxml_run.specs.Reading.{held, lines_under, read_of, IsReadOf, Reads}
 use Rattle.rst2pseudoxml_run.specs.RunResult.{Parts, parts_of, result_of, result_of_read, result_of_text}
 use Rattle.rst2pseudoxml_run.specs.declared.end.End.{End}
 use Rattle.rst2pseudoxml_run.specs.declared.end.End.TheVariants.{Done, Read, TooLong, NotUtf8, TooDeep, NoMemory, WriteErr, WriteOut}
@@ -91,3 +93,31 @@ module _ (settings : Settings) (source bytes : List ℕ) where
 pub passed_on : (result : Result Made Refusal) (end : End) → IsErrAnd result (λ refusal. refusal ≡ Text end) → made_of result ≡ Err (Text end)
 passed_on (Ok made) end is = absurd is
 passed_on (Err refusal) end is = ap Err is
+
+-- what is left of the document that is read of a text
+left_found : (settings : Settings) (bytes : List ℕ) (text : Option (List ℕ)) (read : Node × ℕ) (left : Node × List Note)
+    → IsReadOf (profile_of settings) settings text (Ok read) → leaves read.1 (profile_of settings) settings read.0 ≡ left → left_of_text settings bytes text ≡ Ok left
+left_found settings bytes None read left none same = absurd none
+left_found settings bytes (Some text) read left is same = ap (left_of_read settings) is ∙ ap Ok same
+
+-- the line at which blocks are nested too deeply in a text
+deep_found : (settings : Settings) (bytes : List ℕ) (text : Option (List ℕ)) (line : ℕ) → IsReadOf (profile_of settings) settings text (Err line)
+    → left_of_text settings bytes text ≡ Err (TooDeep line)
+deep_found settings bytes None line none = absurd none
+deep_found settings bytes (Some text) line is = ap (left_of_read settings) is
+
+-- what was made of a text that isn't too long, or why nothing was
+pub found : (settings : Settings) (bytes : List ℕ) (result : Result Finished End) → length bytes ≤ 16777216 → Reads (profile_of settings) settings bytes result → Finds settings bytes result
+found settings bytes (Ok finished) short ((read, is, same), highest, few) =
+    let left = left_found (held settings (text_of bytes)) bytes (text_of bytes) read (finished.tree, finished.notes.items) is same in
+    (rw (le-ltb 16777216 (length bytes) short) left, highest, few)
+found settings bytes (Err NoMemory) short h = short
+found settings bytes (Err (NotUtf8 at)) short (none, is) =
+    let left = ap (left_of_text (held settings (text_of bytes)) bytes) none ∙ ap (λ (n : ℕ). Err (NotUtf8 n)) (sym is) in rw (le-ltb 16777216 (length bytes) short) left
+found settings bytes (Err (TooDeep line)) short h =
+    let left = deep_found (held settings (text_of bytes)) bytes (text_of bytes) line h in rw (le-ltb 16777216 (length bytes) short) left
+found settings bytes (Err TooLong) short h = absurd h
+found settings bytes (Err Read) short h = absurd h
+found settings bytes (Err (Done status)) short h = absurd h
+found settings bytes (Err (WriteErr done)) short h = absurd h
+found settings bytes (Err (WriteOut done)) short h = absurd h

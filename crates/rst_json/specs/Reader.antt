@@ -93,8 +93,8 @@ json_items (code s n (suc more)) (b ∷ bs) = json_items (code s (n * 16 + digit
 abbrev pub tags : List Tag
 tags =
     tag.Abbreviation ∷ tag.Acronym ∷ tag.Address ∷ tag.Admonition ∷ tag.Attention ∷ tag.Attribution ∷ tag.Author ∷ tag.Authors ∷ tag.BlockQuote ∷
-    tag.BulletList ∷ tag.Caption ∷ tag.Caution ∷ tag.Citation ∷ tag.CitationReference ∷ tag.Classifier ∷ tag.Colspec ∷ tag.Comment ∷ tag.Compound ∷
-    tag.Contact ∷ tag.Container ∷ tag.Copyright ∷ tag.Danger ∷ tag.Date ∷ tag.Definition ∷ tag.DefinitionList ∷ tag.DefinitionListItem ∷
+    tag.BulletList ∷ tag.Caption ∷ tag.Caution ∷ tag.Citation ∷ tag.CitationReference ∷ tag.Class ∷ tag.Classifier ∷ tag.Colspec ∷ tag.Comment ∷ tag.Compound ∷
+    tag.Contact ∷ tag.Container ∷ tag.Contents ∷ tag.Copyright ∷ tag.Danger ∷ tag.Date ∷ tag.Definition ∷ tag.DefinitionList ∷ tag.DefinitionListItem ∷
     tag.Description ∷ tag.Docinfo ∷ tag.DoctestBlock ∷ tag.Document ∷ tag.Emphasis ∷ tag.Entry ∷ tag.EnumeratedList ∷ tag.Error ∷ tag.Field ∷
     tag.FieldBody ∷ tag.FieldList ∷ tag.FieldName ∷ tag.Figure ∷ tag.Footnote ∷ tag.FootnoteReference ∷ tag.Handed ∷ tag.Hint ∷ tag.Image ∷ tag.Important ∷
     tag.Label ∷ tag.Legend ∷ tag.Line ∷ tag.LineBlock ∷ tag.ListItem ∷ tag.Literal ∷ tag.LiteralBlock ∷ tag.Math ∷ tag.MathBlock ∷ tag.Note ∷
@@ -106,9 +106,9 @@ tags =
 
 abbrev pub keys : List Key
 keys =
-    key.Align ∷ key.Alt ∷ key.Anonymous ∷ key.Auto ∷ key.Backrefs ∷ key.Bullet ∷ key.Classes ∷ key.Cols ∷ key.Colwidth ∷ key.Delimiter ∷ key.Dupnames ∷ key.Enumtype ∷
-    key.Format ∷ key.Height ∷ key.Ids ∷ key.Inline ∷ key.Kind ∷ key.Level ∷ key.Line ∷ key.Mark ∷ key.Message ∷ key.Morecols ∷ key.Morerows ∷ key.Name ∷ key.Names ∷ key.OwnName ∷ key.Prefix ∷
-    key.Rawsource ∷ key.Refid ∷ key.Refname ∷ key.Refuri ∷ key.Scale ∷ key.Serial ∷ key.Source ∷ key.Start ∷ key.Suffix ∷ key.TextMessages ∷ key.Title ∷ key.Type_ ∷
+    key.Align ∷ key.Alt ∷ key.Anonymous ∷ key.Auto ∷ key.Backlinks ∷ key.Backrefs ∷ key.Bullet ∷ key.Classes ∷ key.Cols ∷ key.Colwidth ∷ key.Delimiter ∷ key.Depth ∷ key.Dupnames ∷ key.Enumtype ∷
+    key.Format ∷ key.Height ∷ key.Ids ∷ key.Inline ∷ key.Kind ∷ key.Level ∷ key.Line ∷ key.Local ∷ key.Mark ∷ key.Message ∷ key.Morecols ∷ key.Morerows ∷ key.Name ∷ key.Names ∷ key.OwnName ∷ key.Prefix ∷
+    key.Rawsource ∷ key.Refid ∷ key.Refname ∷ key.Refuri ∷ key.Scale ∷ key.Serial ∷ key.Source ∷ key.Start ∷ key.Stub ∷ key.Suffix ∷ key.TextMessages ∷ key.Title ∷ key.Type_ ∷
     key.Uri ∷ key.Width ∷ key.XmlSpace ∷ []
 
 unfoldable pub tag_named : List ℕ → Option Tag

@@ -6,6 +6,7 @@ unfolding
     Rattle.rst_markup_lines.proofs.Computing.rst_markup_lines Rattle.rst_markup_blocks.proofs.Computing.rst_markup_blocks
     Rattle.rst_markup_directives.specs.Argument.word_of Rattle.rst_markup_directives.specs.Characters.is_exactly
     Rattle.rst_markup_directives.specs.Characters.is_word Rattle.rst_markup_directives.specs.Characters.is_same_word
+    Rattle.rst_markup_directives.specs.Contents.backlinks_of Rattle.rst_markup_directives.specs.Contents.depth_of
     Rattle.rst_markup_directives.specs.Directive.run_in Rattle.rst_markup_directives.specs.Directive.directive_by_layout
     Rattle.rst_markup_directives.specs.Directive.read_block Rattle.rst_markup_directives.specs.Directive.directive_of
     Rattle.rst_markup_directives.specs.Judgement.permitted Rattle.rst_markup_directives.specs.Judgement.content_fault

@@ -33,7 +33,7 @@ use Rattle.rst_markup_directives.specs.declared.kind.ContentKind.{ContentKind}
 use Rattle.rst_markup_directives.specs.declared.kind.ContentKind.TheVariants.{Paragraph, Quotes}
 use Rattle.rst_markup_directives.specs.declared.kind.Kind.{Kind}
 use Rattle.rst_markup_directives.specs.declared.kind.ArgumentKind.{ArgumentKind}
-use Rattle.rst_markup_directives.specs.declared.kind.ArgumentKind.TheVariants.{Absent as NoArgument, Title as TitleArgument, OptionalTitle, Uri as UriArgument, Language as LanguageArgument, Formats as FormatsArgument, Classes as ClassesArgument}
+use Rattle.rst_markup_directives.specs.declared.kind.ArgumentKind.TheVariants.{Absent as NoArgument, Title as TitleArgument, OptionalTitle, Uri as UriArgument, Language as LanguageArgument, Formats as FormatsArgument, Classes as ClassesArgument, OptionalClasses}
 use Rattle.rst_markup_directives.proofs.Indentations.{indented_less}
 use Rattle.rst_markup_directives.proofs.Parts.{length_cut}
 
@@ -100,6 +100,7 @@ parts_within parts (Quotes class) argument run all rest h k = record { argument 
 parts_within parts content NoArgument run all rest h k =
     let whole = is_text content && nat_lt 0 (before_field parts run) in
     without_within parts run all (cond whole (length run) rest) h (cond_both whole (length run) rest (λ n. n ≤ all) (λ _. h) (λ _. k))
+parts_within parts _ ClassesArgument run all rest h k = record { argument = omega (arith, h); first = omega arith; second = omega arith }
 parts_within parts _ _ run all rest h k = record { argument = omega (arith, before_field-le parts run); first = omega arith; second = omega arith }
 
 layout_within : (parts : Parts) (kind : Kind) (run : List Text) (all rest : ℕ) → length run ≤ all → rest ≤ all → IsWithin (layout_at parts kind run all rest) all
@@ -140,6 +141,7 @@ argument_in B OptionalTitle (t ∷ ts) part b = b
 argument_in B UriArgument [] part b = tt
 argument_in B FormatsArgument [] part b = tt
 argument_in B ClassesArgument [] part b = tt
+argument_in B OptionalClasses [] part b = tt
 argument_in B LanguageArgument (t ∷ ts) part b = word_in B (normalized_white (joined_nonempty (t ∷ ts)))
 argument_in B _ _ part b = tt
 

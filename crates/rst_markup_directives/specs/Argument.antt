@@ -1,4 +1,5 @@
--- The arguments of directives (Directives, 'Generic Admonition', 'Topic', 'Sidebar', 'Image', 'Figure', 'Code', 'Raw Data Pass-Through', 'Container').
+-- The arguments of directives (Directives, 'Generic Admonition', 'Topic', 'Sidebar', 'Image', 'Figure', 'Code', 'Raw Data Pass-Through', 'Container',
+-- 'Class').
 use Rattle.std.specs.Prelude.{List, [], ◌∷◌, Option, Some, None, option_map, Result, Ok, Err, if◌then◌else◌}
 use Rattle.rst_text.specs.Names.{name_of, normalized_white}
 use Rattle.rst_text.specs.Text.{chars_of}
@@ -11,7 +12,7 @@ use Rattle.rst_markup_directives.specs.declared.argument.Argument.{Argument}
 use Rattle.rst_markup_directives.specs.declared.argument.Argument.TheVariants.{Absent, Title, Uri, Language, Formats, Classes}
 use Rattle.rst_markup_directives.specs.declared.fault.Detail.{Detail}
 use Rattle.rst_markup_directives.specs.declared.kind.ArgumentKind.{ArgumentKind}
-use Rattle.rst_markup_directives.specs.declared.kind.ArgumentKind.TheVariants.{Absent as NoArgument, Title as TitleArgument, OptionalTitle, Uri as UriArgument, Language as LanguageArgument, Formats as FormatsArgument, Classes as ClassesArgument}
+use Rattle.rst_markup_directives.specs.declared.kind.ArgumentKind.TheVariants.{Absent as NoArgument, Title as TitleArgument, OptionalTitle, Uri as UriArgument, Language as LanguageArgument, Formats as FormatsArgument, Classes as ClassesArgument, OptionalClasses}
 use Rattle.rst_markup_blocks.specs.declared.part.Part.{Part}
 
 -- what an argument means
@@ -52,10 +53,19 @@ abbrev pub formats_of : List Text → Result ArgumentMeaning Wrong
 formats_of [] = Err no_argument
 formats_of (t ∷ ts) = Ok (formats (name_of (joined_nonempty (t ∷ ts))))
 
--- class names, with the ids of their words, if each has one; or none
-abbrev pub classes_of : List Text → ArgumentMeaning
-classes_of [] = nothing
-classes_of (t ∷ ts) = classes (joined_nonempty (t ∷ ts)) (ids_of (joined_nonempty (t ∷ ts)))
+-- class names, with the ids of their words, if each has one
+abbrev pub classes_of : Text → ArgumentMeaning
+classes_of text = classes text (ids_of text)
+
+-- class names in some lines
+abbrev pub classes_argument : List Text → Result ArgumentMeaning Wrong
+classes_argument [] = Err no_argument
+classes_argument (t ∷ ts) = Ok (classes_of (joined_nonempty (t ∷ ts)))
+
+-- class names in some lines, or none
+abbrev pub optional_classes : List Text → ArgumentMeaning
+optional_classes [] = nothing
+optional_classes (t ∷ ts) = classes_of (joined_nonempty (t ∷ ts))
 
 -- the argument of a kind that the lines of a part of a view are: none, a title, a URI, a language, formats or class names
 abbrev pub argument_of : ArgumentKind → List Text → Part → Result ArgumentMeaning Wrong
@@ -65,7 +75,8 @@ argument_of OptionalTitle ts part = Ok (optional_title ts part)
 argument_of UriArgument ts part = uri_of ts
 argument_of LanguageArgument ts part = language_of ts
 argument_of FormatsArgument ts part = formats_of ts
-argument_of ClassesArgument ts part = Ok (classes_of ts)
+argument_of ClassesArgument ts part = classes_argument ts
+argument_of OptionalClasses ts part = Ok (optional_classes ts)
 
 -- ---- as it is kept
 

@@ -12,7 +12,7 @@ use Rattle.rst_markup_directives.specs.declared.found.Place.TheVariants.{Top, Su
 use Rattle.rst_markup_directives.specs.declared.kind.Allowed.{Allowed}
 use Rattle.rst_markup_directives.specs.declared.kind.Allowed.TheVariants.{Sections, Beside, Substitution as SubstitutionAlone, Anywhere, Nowhere}
 use Rattle.rst_markup_directives.specs.declared.kind.ContentKind.{ContentKind}
-use Rattle.rst_markup_directives.specs.declared.kind.ContentKind.TheVariants.{Empty, Paragraph, Caption}
+use Rattle.rst_markup_directives.specs.declared.kind.ContentKind.TheVariants.{Empty, Paragraph, Caption, Classed, Entries}
 use Rattle.rst_markup_directives.specs.declared.kind.Kind.{Kind}
 use Rattle.rst_markup_directives.specs.declared.option.OptionName.{OptionName}
 use Rattle.rst_markup_directives.specs.declared.option.OptionName.TheVariants.{File, Subtitle, Url}
@@ -37,7 +37,7 @@ permitted_by None substitution = if substitution then Err NotInSubstitution else
 unfoldable pub permitted : Option Kind → Place → Result Kind DirectiveFault
 permitted kind place = permitted_by kind (is_definition_place place)
 
--- a topic or a sidebar is allowed at the level of sections alone, a replacement text in a substitution definition alone, and what reads files nowhere
+-- a topic, a sidebar or a table of contents is allowed at the level of sections alone, a replacement text in a substitution definition alone, and what reads files nowhere
 abbrev pub place_fault : Allowed → Place → Option DirectiveFault
 place_fault Sections Top = None
 place_fault Sections _ = Some TopicNotHere
@@ -49,10 +49,12 @@ place_fault Nowhere _ = Some Disabled
 place_fault _ place = None
 
 -- The fault of a content by what it has to be, whether it is empty, and whether it is a single paragraph. A figure's is judged once its
--- elements are read.
+-- elements are read, and what gives classes may have one or none.
 abbrev pub fault_by : ContentKind → Bool → Bool → Option DirectiveFault
 fault_by Caption empty paragraph = None
+fault_by Classed empty paragraph = None
 fault_by Empty empty paragraph = if empty then None else Some (Inside ContentNotPermitted)
+fault_by Entries empty paragraph = if empty then None else Some (Inside ContentNotPermitted)
 fault_by Paragraph empty paragraph = if empty then Some NoContent else if paragraph then None else Some (Inside NotOneParagraph)
 fault_by _ empty paragraph = if empty then Some NoContent else None
 

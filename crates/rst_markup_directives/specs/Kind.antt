@@ -1,9 +1,9 @@
 -- The directives: their names, what they take, where they are allowed, and which part of the profile has them (Directives, 'Specific
 -- Admonitions', 'Generic Admonition', 'Topic', 'Rubric', 'Image', 'Figure', 'Code', 'Parsed Literal Block', 'Raw Data Pass-Through', 'Including an
--- External Document Fragment', 'Compound Paragraph', 'Container', 'Line Block', 'Math', 'Replacement Text', 'Common Options'; Markup
+-- External Document Fragment', 'Compound Paragraph', 'Container', 'Class', 'Line Block', 'Math', 'Table of Contents', 'Replacement Text', 'Common Options'; Markup
 -- Specification, 'Substitution Definitions').
 use Prim.Native.String.{String}
-use Rattle.std.specs.Prelude.{ℕ, Bool, true, false, List, [], ◌∷◌, codes, Option, Some, None, option_and_then, if◌then◌else◌}
+use Rattle.std.specs.Prelude.{ℕ, Bool, true, false, not, List, [], ◌∷◌, codes, Option, Some, None, option_and_then, if◌then◌else◌}
 use Rattle.std.specs.List.{list_any}
 use Rattle.std.specs.Option.{option_map_or}
 use Rattle.std.specs.Str.{str_eq_ignore_ascii_case}
@@ -14,18 +14,18 @@ use Rattle.rst_markup_directives.specs.Characters.{Text, is_word, lookup}
 use Rattle.rst_markup_directives.specs.declared.kind.Allowed.{Allowed}
 use Rattle.rst_markup_directives.specs.declared.kind.Allowed.TheVariants.{Body, Sections, Beside, Substitution, Anywhere, Nowhere}
 use Rattle.rst_markup_directives.specs.declared.kind.ArgumentKind.{ArgumentKind}
-use Rattle.rst_markup_directives.specs.declared.kind.ArgumentKind.TheVariants.{Absent, Title, OptionalTitle, Uri, Language, Formats, Classes}
+use Rattle.rst_markup_directives.specs.declared.kind.ArgumentKind.TheVariants.{Absent, Title, OptionalTitle, Uri, Language, Formats, Classes, OptionalClasses}
 use Rattle.rst_markup_directives.specs.declared.kind.ContentKind.{ContentKind}
-use Rattle.rst_markup_directives.specs.declared.kind.ContentKind.TheVariants.{Empty as NoContent, Lines, Marked, Verse, Formulas, Blocks, Paragraph, Caption, Quotes}
+use Rattle.rst_markup_directives.specs.declared.kind.ContentKind.TheVariants.{Empty as NoContent, Lines, Marked, Verse, Formulas, Blocks, Paragraph, Caption, Classed, Quotes, Entries}
 use Rattle.rst_markup_directives.specs.declared.kind.Kind.{Kind}
 use Rattle.rst_markup_directives.specs.declared.kind.OptionSet.{OptionSet}
-use Rattle.rst_markup_directives.specs.declared.kind.OptionSet.TheVariants.{Empty as NoOptions, Common, NameAlone, Sidebar as SidebarOptions, Raw as RawOptions, Include, Image, Figure}
+use Rattle.rst_markup_directives.specs.declared.kind.OptionSet.TheVariants.{Empty as NoOptions, Common, NameAlone, Sidebar as SidebarOptions, Raw as RawOptions, Include, Image, Figure, Contents}
 use Rattle.rst_markup_directives.specs.declared.kind.PartName.{PartName}
 use Rattle.rst_markup_directives.specs.declared.kind.QuoteClass.{QuoteClass}
 use Rattle.rst_markup_directives.specs.declared.kind.QuoteClass.TheVariants.{Epigraph, Highlights, PullQuote}
 use Rattle.rst_markup_directives.specs.declared.kind.PartName.TheVariants.{Usual, Code, Wider}
 use Rattle.rst_markup_directives.specs.declared.option.OptionName.{OptionName}
-use Rattle.rst_markup_directives.specs.declared.option.OptionName.TheVariants.{Class, Name, FigureWidth, FigureClass, Subtitle, File, Url, Inclusion}
+use Rattle.rst_markup_directives.specs.declared.option.OptionName.TheVariants.{Class, Name, FigureWidth, FigureClass, Subtitle, File, Url, Inclusion, Depth, Local, Backlinks}
 
 -- a directive by its element, its argument, its options, its content, and where it is allowed
 abbrev pub kind : Tag → ArgumentKind → OptionSet → ContentKind → Allowed → Kind
@@ -65,13 +65,15 @@ directives =
     ∷ row "parsed-literal" Wider tag.LiteralBlock Absent Common Marked Body
     ∷ row "include" Wider tag.LiteralBlock Title Include NoContent Nowhere
     ∷ row "compound" Wider tag.Compound Absent Common Blocks Body
-    ∷ row "container" Wider tag.Container Classes NameAlone Blocks Body
+    ∷ row "container" Wider tag.Container OptionalClasses NameAlone Blocks Body
+    ∷ row "class" Wider tag.Class Classes NoOptions Classed Body
     ∷ row "sidebar" Wider tag.Sidebar OptionalTitle SidebarOptions Blocks Beside
     ∷ row "epigraph" Wider tag.BlockQuote Absent NoOptions (Quotes Epigraph) Body
     ∷ row "highlights" Wider tag.BlockQuote Absent NoOptions (Quotes Highlights) Body
     ∷ row "pull-quote" Wider tag.BlockQuote Absent NoOptions (Quotes PullQuote) Body
     ∷ row "line-block" Wider tag.LineBlock Absent Common Verse Body
     ∷ row "math" Wider tag.MathBlock Absent Common Formulas Body
+    ∷ row "contents" Wider tag.Topic OptionalTitle Contents Entries Beside
     ∷ []
 
 -- a part of the profile is on; `code` is true if the directive for program code is
@@ -113,8 +115,15 @@ reads_file File = true
 reads_file Url = true
 reads_file _ = false
 
--- none, `class` and `name`, `name` alone, those of a sidebar, those of raw data, those of a file's inclusion, those of an image, or these and those of a
--- figure
+-- the option is one of a table of contents alone
+abbrev pub is_of_contents : OptionName → Bool
+is_of_contents Depth = true
+is_of_contents Local = true
+is_of_contents Backlinks = true
+is_of_contents _ = false
+
+-- none, `class` and `name`, `name` alone, those of a sidebar, those of raw data, those of a file's inclusion, those of a table of contents, those of an
+-- image, or these and those of a figure
 abbrev pub has_option : OptionSet → OptionName → Bool
 has_option NoOptions option = false
 has_option Common Class = true
@@ -132,13 +141,15 @@ has_option Include Class = true
 has_option Include Name = true
 has_option Include Inclusion = true
 has_option Include _ = false
+has_option Contents Class = true
+has_option Contents option = is_of_contents option
 has_option _ Subtitle = false
 has_option _ File = false
 has_option _ Url = false
 has_option _ Inclusion = false
 has_option Image FigureWidth = false
 has_option Image FigureClass = false
-has_option _ _ = true
+has_option _ option = not (is_of_contents option)
 
 -- a figure alone may not be aligned vertically
 abbrev pub has_vertical : OptionSet → Bool
@@ -177,4 +188,5 @@ has_blocks Blocks = true
 has_blocks (Quotes class) = true
 has_blocks Paragraph = true
 has_blocks Caption = true
+has_blocks Classed = true
 has_blocks _ = false

@@ -12,7 +12,7 @@ use Rattle.rst_markup_directives.specs.Lines.{after_blank}
 use Rattle.rst_markup_directives.specs.declared.layout.Layout.{Layout}
 use Rattle.rst_markup_directives.specs.declared.kind.Kind.{Kind}
 use Rattle.rst_markup_directives.specs.declared.kind.ArgumentKind.{ArgumentKind}
-use Rattle.rst_markup_directives.specs.declared.kind.ArgumentKind.TheVariants.{Absent}
+use Rattle.rst_markup_directives.specs.declared.kind.ArgumentKind.TheVariants.{Absent, Classes}
 use Rattle.rst_markup_directives.specs.declared.kind.ContentKind.{ContentKind}
 use Rattle.rst_markup_directives.specs.declared.kind.ContentKind.TheVariants.{Paragraph, Quotes}
 
@@ -36,12 +36,13 @@ parts_without_argument parts run all rest =
     if before_field parts run == length run then content_alone run all
     else record { argument = 0; first = before_field parts run; options = before_field parts run; second = rest }
 
--- A block by the content and the argument that its directive takes: a paragraph alone and block quotes leave no room for options, and an argument ends where
--- the options begin. The blank lines between the two parts of a text belong to it.
+-- A block by the content and the argument that its directive takes: a paragraph alone, block quotes and class names that have to be there leave no room
+-- for options, and another argument ends where the options begin. The blank lines between the two parts of a text belong to it.
 abbrev pub layout_by : Parts → ContentKind → ArgumentKind → List Text → ℕ → ℕ → Layout
 layout_by parts Paragraph argument run all rest = content_alone run all
 layout_by parts (Quotes class) argument run all rest = content_alone run all
 layout_by parts content Absent run all rest = parts_without_argument parts run all (if is_text content && nat_lt 0 (before_field parts run) then length run else rest)
+layout_by parts _ Classes run all rest = record { argument = length run; first = 0; options = length run; second = rest }
 layout_by parts _ _ run all rest = record { argument = before_field parts run; first = 0; options = before_field parts run; second = rest }
 
 -- the parts of a block of `all` lines that begins with this run; `rest` is the place of the first line after the run that

@@ -1,6 +1,7 @@
 pub mod Characters
 pub mod Escapes
 pub mod Measure
+pub mod Contents
 pub mod OptionName
 pub mod Kind
 pub mod Lines

@@ -1,4 +1,4 @@
--- What the values of options mean (Directives, 'Common Options', 'Image', 'Figure').
+-- What the values of options mean (Directives, 'Common Options', 'Image', 'Figure', 'Table of Contents').
 use Rattle.std.specs.Prelude.{ℕ, true, false, List, [], ◌∷◌, map, Option, Some, None, option_map, if◌then◌else◌}
 use Rattle.std.specs.List.{list_any}
 use Rattle.std.specs.declared.string.String.{String}
@@ -6,15 +6,17 @@ use Rattle.rst_text.specs.Block.{is_blank}
 use Rattle.rst_text.specs.Names.{words_of, id_of, name_of}
 use Rattle.rst_text.specs.Text.{chars_of}
 use Rattle.rst_markup_directives.specs.Characters.{Text}
+use Rattle.rst_markup_directives.specs.Contents.{backlinks_of, depth_of}
 use Rattle.rst_markup_directives.specs.Measure.{measure_of, scale_of, alignment_of}
 use Rattle.rst_markup_directives.specs.Kind.{has_vertical}
 use Rattle.rst_markup_directives.specs.Target.{Destination, destination_of, target_value}
+use Rattle.rst_markup_directives.specs.declared.contents.Backlinks.{Backlinks}
 use Rattle.rst_markup_directives.specs.declared.measure.Alignment.{Alignment}
 use Rattle.rst_markup_directives.specs.declared.kind.OptionSet.{OptionSet}
 use Rattle.rst_markup_directives.specs.declared.option.OptionName.{OptionName}
-use Rattle.rst_markup_directives.specs.declared.option.OptionName.TheVariants.{Alt, Height, Width, Scale, Align, Target, Class, Name as NameOption, FigureWidth, FigureClass, Subtitle, File, Url, Inclusion}
+use Rattle.rst_markup_directives.specs.declared.option.OptionName.TheVariants.{Alt, Height, Width, Scale, Align, Target, Class, Name as NameOption, FigureWidth, FigureClass, Subtitle, File, Url, Inclusion, Depth, Local, Backlinks as BacklinksOption}
 use Rattle.rst_markup_directives.specs.declared.value.OptionValue.{OptionValue}
-use Rattle.rst_markup_directives.specs.declared.value.OptionValue.TheVariants.{Text as TextValue, Measure, Number, Place, Classes, Link, Name as NameValue}
+use Rattle.rst_markup_directives.specs.declared.value.OptionValue.TheVariants.{Text as TextValue, Measure, Number, Place, Classes, Link, Name as NameValue, Backlinks as BacklinksValue}
 
 -- the meaning of a value
 pub data Meaning : Type 0 where
@@ -25,6 +27,7 @@ pub data Meaning : Type 0 where
   classed : List Text → Meaning
   linked : Destination → Text → Meaning
   called : Text → Meaning
+  led_back : Backlinks → Meaning
 
 -- ---- classes
 
@@ -43,6 +46,10 @@ ids_of t = all_filled (map id_of (words_of t))
 abbrev pub some_text : Text → Option Text
 some_text t = if is_blank t then None else Some t
 
+-- nothing is written, which counts as 1
+abbrev pub one_if_empty : Text → Option ℕ
+one_if_empty t = if is_blank t then Some 1 else None
+
 -- The meaning of an option's value, if the option can have it. In a name each run of white is one space, and case doesn't count.
 abbrev pub option_meaning : OptionSet → OptionName → Text → Option Meaning
 option_meaning options Alt t = Some (plain t)
@@ -59,6 +66,9 @@ option_meaning options Subtitle t = option_map plain (some_text t)
 option_meaning options File t = option_map plain (some_text t)
 option_meaning options Url t = option_map plain (some_text t)
 option_meaning options Inclusion t = Some (plain t)
+option_meaning options Depth t = option_map numbered (depth_of t)
+option_meaning options Local t = option_map numbered (one_if_empty t)
+option_meaning options BacklinksOption t = option_map led_back (backlinks_of t)
 
 -- ---- as they are kept
 
@@ -75,3 +85,4 @@ meaning_of (Place alignment) = placed alignment
 meaning_of (Classes ids) = classed (chars_of_texts ids.items)
 meaning_of (Link to source) = linked (destination_of to) (chars_of source)
 meaning_of (NameValue name) = called (chars_of name)
+meaning_of (BacklinksValue backlinks) = led_back backlinks

@@ -47,13 +47,17 @@ pub(crate) fn argument_of(
     match (kind, lines) {
         (ArgumentKind::Absent, _) => Ok(Ok(Argument::Absent)),
         (ArgumentKind::Language, []) => Ok(Ok(Argument::Language(None))),
-        (ArgumentKind::OptionalTitle | ArgumentKind::Classes, []) => Ok(Ok(Argument::Absent)),
+        (ArgumentKind::OptionalTitle | ArgumentKind::OptionalClasses, []) => Ok(Ok(
+            Argument::Absent,
+        )),
         (_, []) => Ok(Err(Detail::NoArgument)),
         (ArgumentKind::Title | ArgumentKind::OptionalTitle, _) => Ok(Ok(Argument::Title(part))),
         (ArgumentKind::Uri, _) => uri_of(alloc, lines),
         (ArgumentKind::Language, _) => language_of(alloc, lines),
         (ArgumentKind::Formats, _) => formats_of(alloc, lines),
-        (ArgumentKind::Classes, _) => Ok(Ok(classes_of(alloc, lines)?)),
+        (ArgumentKind::Classes | ArgumentKind::OptionalClasses, _) => {
+            Ok(Ok(classes_of(alloc, lines)?))
+        }
     }
 }
 

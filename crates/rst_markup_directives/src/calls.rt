@@ -202,9 +202,8 @@ fn judged_directive(
             return Directive::Wrong { fault, source };
         }
     };
-    let empty = content.first.from == content.first.to && content.second.from == content.second.to;
     let fault = match option_fault(&argument, options.as_slice()) {
-        None => content_fault(kind, empty, place, paragraph),
+        None => content_fault(kind, content.is_empty(), place, paragraph),
         fault => fault,
     };
     match (fault, argument) {

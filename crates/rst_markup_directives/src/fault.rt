@@ -13,7 +13,7 @@ pub enum DirectiveFault {
     NoContent,
     /// A topic in a body element or in a topic.
     TopicNotHere,
-    /// A sidebar there.
+    /// A sidebar or a table of contents there.
     SidebarNotHere,
     /// A subtitle without a title.
     LoneSubtitle,

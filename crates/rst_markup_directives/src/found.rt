@@ -1,4 +1,7 @@
 //! What a directive is.
+ghost use Rattle.std.specs.Prelude.{◌≡◌};
+ghost use Rattle.rst_markup_directives.specs.Call as spec;
+
 use super::argument::Argument;
 use super::fault::DirectiveFault;
 use super::kind::Kind;
@@ -21,6 +24,15 @@ pub enum Place {
 pub struct Content {
     pub first: Part,
     pub second: Part,
+}
+
+impl Content {
+    /// Whether no part has a line.
+    pub fn is_empty(self) -> bool
+        ensures { result ≡ spec.is_empty self }
+    {
+        self.first.from == self.first.to && self.second.from == self.second.to
+    }
 }
 
 /// What a directive is.

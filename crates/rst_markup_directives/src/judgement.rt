@@ -52,7 +52,9 @@ pub(crate) fn content_fault(
     ensures { result ≡ spec.content_fault kind empty place paragraph }
 {
     match (kind.content, empty) {
-        (ContentKind::Empty, false) => Some(DirectiveFault::Inside(Detail::ContentNotPermitted)),
+        (ContentKind::Empty | ContentKind::Entries, false) => {
+            Some(DirectiveFault::Inside(Detail::ContentNotPermitted))
+        }
         (
             ContentKind::Lines
             | ContentKind::Marked

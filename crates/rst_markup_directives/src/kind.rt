@@ -32,8 +32,10 @@ pub enum ArgumentKind {
     Language,
     /// Formats, at least one.
     Formats,
-    /// Class names, or nothing.
+    /// Class names, at least one. No options follow them.
     Classes,
+    /// Class names, or nothing.
+    OptionalClasses,
 }
 
 /// The options of a directive.
@@ -50,6 +52,8 @@ pub enum OptionSet {
     Raw,
     /// `class`, `name`, and those that `include` alone has.
     Include,
+    /// `class`, and those of a table of contents alone.
+    Contents,
     /// Those of an image.
     Image,
     /// Those of an image, and those of a figure alone.
@@ -76,6 +80,10 @@ pub enum ContentKind {
     Paragraph,
     /// A caption and a legend, or nothing.
     Caption,
+    /// Nothing: its entries are made of the document's sections.
+    Entries,
+    /// Body elements, which get the class names, or nothing.
+    Classed,
 }
 
 /// The class of block quotes that a directive makes.
@@ -93,7 +101,7 @@ pub enum Allowed {
     Body,
     /// At the level of sections alone.
     Sections,
-    /// There as well, beside the text.
+    /// There as well: a sidebar, or a table of contents.
     Beside,
     /// In a substitution definition alone.
     Substitution,
@@ -136,7 +144,7 @@ macro_rules! row {
 }
 
 /// The directives by their names.
-const DIRECTIVES: [(&str, (PartName, Kind)); 29] = [
+const DIRECTIVES: [(&str, (PartName, Kind)); 31] = [
     row!("code" in Code: LiteralBlock, Language, Common, Lines, Body),
     row!("code-block" in Code: LiteralBlock, Language, Common, Lines, Body),
     row!("sourcecode" in Code: LiteralBlock, Language, Common, Lines, Body),
@@ -159,13 +167,15 @@ const DIRECTIVES: [(&str, (PartName, Kind)); 29] = [
     row!("parsed-literal" in Wider: LiteralBlock, Absent, Common, Marked, Body),
     row!("include" in Wider: LiteralBlock, Title, Include, Empty, Nowhere),
     row!("compound" in Wider: Compound, Absent, Common, Blocks, Body),
-    row!("container" in Wider: Container, Classes, NameAlone, Blocks, Body),
+    row!("container" in Wider: Container, OptionalClasses, NameAlone, Blocks, Body),
+    row!("class" in Wider: Class, Classes, Empty, Classed, Body),
     row!("sidebar" in Wider: Sidebar, OptionalTitle, Sidebar, Blocks, Beside),
     row!("epigraph" in Wider: BlockQuote, Absent, Empty, Quotes(Epigraph), Body),
     row!("highlights" in Wider: BlockQuote, Absent, Empty, Quotes(Highlights), Body),
     row!("pull-quote" in Wider: BlockQuote, Absent, Empty, Quotes(PullQuote), Body),
     row!("line-block" in Wider: LineBlock, Absent, Common, Verse, Body),
     row!("math" in Wider: MathBlock, Absent, Common, Formulas, Body),
+    row!("contents" in Wider: Topic, OptionalTitle, Contents, Entries, Beside),
 ];
 
 /// Whether a text names a directive of the wider profile, without regard to the case of letters of ASCII.
@@ -219,6 +229,7 @@ impl ContentKind {
                 | ContentKind::Quotes(_)
                 | ContentKind::Paragraph
                 | ContentKind::Caption
+                | ContentKind::Classed
         )
     }
 
@@ -275,11 +286,12 @@ impl OptionSet {
                 option,
                 OptionName::Class | OptionName::Name | OptionName::Inclusion
             ),
+            OptionSet::Contents => option == OptionName::Class || option.is_of_contents(),
             OptionSet::Image | OptionSet::Figure => match option {
                 OptionName::Subtitle | OptionName::File | OptionName::Url | OptionName::Inclusion =>
                     { false }
                 OptionName::FigureWidth | OptionName::FigureClass => self == OptionSet::Figure,
-                _ => true,
+                _ => !option.is_of_contents(),
             },
         }
     }

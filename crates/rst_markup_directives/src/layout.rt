@@ -49,6 +49,12 @@ pub(crate) fn layout_of(parts: &Parts, kind: Kind, run: &[&str], all: usize, res
             let whole = content.is_text() && 0 < before_field(parts, run);
             parts_without_argument(parts, run, all, if whole { run.len() } else { rest })
         }
+        (_, ArgumentKind::Classes) => Layout {
+            argument: run.len(),
+            first: 0,
+            options: run.len(),
+            second: rest,
+        },
         _ => {
             // The argument ends where the options begin.
             let from = before_field(parts, run);

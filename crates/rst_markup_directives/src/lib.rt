@@ -4,6 +4,7 @@
 mod argument;
 mod calls;
 mod characters;
+mod contents;
 mod fault;
 mod found;
 mod judgement;
@@ -20,6 +21,7 @@ mod value;
 
 pub use argument::Argument;
 pub use calls::{called, directive};
+pub use contents::Backlinks;
 pub use fault::{Detail, DirectiveFault};
 pub use found::{Content, Directive, Place};
 pub use kind::{

@@ -1,6 +1,6 @@
 //! The options of directives.
 ghost use Rattle.std.specs.Prelude.{◌≡◌};
-ghost use Rattle.rst_markup_directives.specs.Kind.{reads_file};
+ghost use Rattle.rst_markup_directives.specs.Kind.{is_of_contents, reads_file};
 ghost use Rattle.rst_markup_directives.specs.OptionName as spec;
 
 use super::characters::lookup;
@@ -23,10 +23,13 @@ pub enum OptionName {
     Url,
     /// One that `include` alone has. Nothing is made of it, as no file is read.
     Inclusion,
+    Depth,
+    Local,
+    Backlinks,
 }
 
 /// The options by their names.
-const OPTIONS: [(&str, OptionName); 21] = [
+const OPTIONS: [(&str, OptionName); 24] = [
     ("alt", OptionName::Alt),
     ("height", OptionName::Height),
     ("width", OptionName::Width),
@@ -48,6 +51,9 @@ const OPTIONS: [(&str, OptionName); 21] = [
     ("start-after", OptionName::Inclusion),
     ("end-before", OptionName::Inclusion),
     ("tab-width", OptionName::Inclusion),
+    ("depth", OptionName::Depth),
+    ("local", OptionName::Local),
+    ("backlinks", OptionName::Backlinks),
 ];
 
 impl OptionName {
@@ -56,6 +62,16 @@ impl OptionName {
         ensures { result ≡ reads_file self }
     {
         matches!(self, OptionName::File | OptionName::Url)
+    }
+
+    /// Whether it is one of a table of contents alone.
+    pub(crate) fn is_of_contents(self) -> bool
+        ensures { result ≡ is_of_contents self }
+    {
+        matches!(
+            self,
+            OptionName::Depth | OptionName::Local | OptionName::Backlinks
+        )
     }
 
     /// The option that a text names, without regard to the case of letters of ASCII.

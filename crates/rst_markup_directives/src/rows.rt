@@ -16,19 +16,20 @@ ghost use Rattle.rst_markup_directives.specs.Kind.{directive_named, has_option, 
 ghost use Rattle.rst_markup_directives.specs.OptionName.{option_named};
 ghost use Rattle.rst_markup_directives.specs.Options.{fields_in};
 ghost use Rattle.rst_markup_directives.specs.Target.{located, named, target_value};
-ghost use Rattle.rst_markup_directives.specs.Value.{called, classed, ids_of, linked, measured, numbered, placed, plain, option_meaning};
+ghost use Rattle.rst_markup_directives.specs.Value.{called, classed, ids_of, led_back, linked, measured, numbered, placed, plain, option_meaning};
 ghost use Rattle.rst_markup_directives.specs.Wrong.{disabled, duplicate, inside, invalid, invalid_classes, lone_subtitle, many_arguments, no_argument, no_content, not_in_substitution, option_block, replace_not_here, sidebar_not_here, topic_not_here, unknown, unknown_directive};
 ghost use Rattle.rst_markup_directives.specs.Wrong as faults;
+ghost use Rattle.rst_markup_directives.specs.declared.contents.Backlinks.TheVariants as back;
 ghost use Rattle.rst_markup_directives.specs.declared.fault.Detail.TheVariants.{ContentNotPermitted, NotOneParagraph};
 ghost use Rattle.rst_markup_directives.specs.declared.fault.DirectiveFault.TheVariants.{Disabled, Inside, LoneSubtitle, NoContent, NotInSubstitution, ReplaceNotHere, SidebarNotHere, TopicNotHere, Unknown};
 ghost use Rattle.rst_markup_directives.specs.declared.found.Place.TheVariants.{Body, Substitution, Top as Sections};
 ghost use Rattle.rst_markup_directives.specs.declared.measure.Alignment.TheVariants.{Bottom, Center, Left, Middle, Right, Top};
 ghost use Rattle.rst_markup_directives.specs.declared.kind.Allowed.TheVariants as allowed;
-ghost use Rattle.rst_markup_directives.specs.declared.kind.ArgumentKind.TheVariants.{Absent, Classes, Formats, Language, OptionalTitle, Title, Uri};
-ghost use Rattle.rst_markup_directives.specs.declared.kind.ContentKind.TheVariants.{Blocks, Caption, Empty, Lines, Marked, Paragraph, Formulas, Verse, Quotes};
+ghost use Rattle.rst_markup_directives.specs.declared.kind.ArgumentKind.TheVariants.{Absent, Classes, Formats, OptionalClasses, Language, OptionalTitle, Title, Uri};
+ghost use Rattle.rst_markup_directives.specs.declared.kind.ContentKind.TheVariants.{Blocks, Caption, Classed, Empty, Entries, Lines, Marked, Paragraph, Formulas, Verse, Quotes};
 ghost use Rattle.rst_markup_directives.specs.declared.kind.QuoteClass.TheVariants.{Epigraph, Highlights, PullQuote};
-ghost use Rattle.rst_markup_directives.specs.declared.kind.OptionSet.TheVariants.{Common, Empty as NoOptions, Figure, Image, Include, NameAlone, Raw as RawOptions, Sidebar as SidebarOptions};
-ghost use Rattle.rst_markup_directives.specs.declared.option.OptionName.TheVariants.{Align, Alt, Class, FigureClass, FigureWidth, File, Height, Inclusion, Name as NameOption, Scale, Subtitle, Target, Url, Width};
+ghost use Rattle.rst_markup_directives.specs.declared.kind.OptionSet.TheVariants.{Common, Contents, Empty as NoOptions, Figure, Image, Include, NameAlone, Raw as RawOptions, Sidebar as SidebarOptions};
+ghost use Rattle.rst_markup_directives.specs.declared.option.OptionName.TheVariants.{Align, Alt, Backlinks, Class, Depth, FigureClass, FigureWidth, File, Height, Inclusion, Local, Name as NameOption, Scale, Subtitle, Target, Url, Width};
 
 /// Which directive a name is of (Markup Specification, 'Directives').
 pub fn names()
@@ -47,19 +48,21 @@ pub fn names()
     ensures case_of_letters { map (λ t. directive_named no_parts (codes t) true) ("NoTe" ∷ "Code-Block" ∷ "tıp" ∷ [])
         ≡ Some (kind tag.Note Absent Common Blocks allowed.Body) ∷ Some (kind tag.LiteralBlock Language Common Lines allowed.Body) ∷ None ∷ [] }
     ensures further { map (λ t. directive_named all_parts (codes t) false) ("rubric" ∷ "raw" ∷ "parsed-literal" ∷ "include" ∷ "compound"
-        ∷ "container" ∷ "line-block" ∷ "math" ∷ [])
+        ∷ "container" ∷ "Class" ∷ "line-block" ∷ "math" ∷ [])
         ≡ Some (kind tag.Rubric Title Common Empty allowed.Body) ∷ Some (kind tag.Raw Formats RawOptions Lines allowed.Anywhere)
         ∷ Some (kind tag.LiteralBlock Absent Common Marked allowed.Body) ∷ Some (kind tag.LiteralBlock Title Include Empty allowed.Nowhere)
-        ∷ Some (kind tag.Compound Absent Common Blocks allowed.Body) ∷ Some (kind tag.Container Classes NameAlone Blocks allowed.Body)
+        ∷ Some (kind tag.Compound Absent Common Blocks allowed.Body) ∷ Some (kind tag.Container OptionalClasses NameAlone Blocks allowed.Body)
+        ∷ Some (kind tag.Class Classes NoOptions Classed allowed.Body)
         ∷ Some (kind tag.LineBlock Absent Common Verse allowed.Body) ∷ Some (kind tag.MathBlock Absent Common Formulas allowed.Body) ∷ [] }
     ensures sidebar { directive_named all_parts (codes "Sidebar") false ≡ Some (kind tag.Sidebar OptionalTitle SidebarOptions Blocks allowed.Beside) }
+    ensures contents { directive_named all_parts (codes "Contents") false ≡ Some (kind tag.Topic OptionalTitle Contents Entries allowed.Beside) }
     ensures quotes { map (λ t. directive_named all_parts (codes t) false) ("epigraph" ∷ "highlights" ∷ "Pull-Quote" ∷ "pullquote" ∷ [])
         ≡ Some (kind tag.BlockQuote Absent NoOptions (Quotes Epigraph) allowed.Body) ∷ Some (kind tag.BlockQuote Absent NoOptions (Quotes Highlights) allowed.Body)
         ∷ Some (kind tag.BlockQuote Absent NoOptions (Quotes PullQuote) allowed.Body) ∷ None ∷ [] }
     ensures quote_classes { map (λ class. quote_class class) (Epigraph ∷ Highlights ∷ PullQuote ∷ [])
         ≡ codes "epigraph" ∷ codes "highlights" ∷ codes "pull-quote" ∷ [] }
     ensures without_their_part { filter (λ t. is_some (directive_named (record all_parts { directives = false }) (codes t) true)) ("rubric" ∷ "raw"
-        ∷ "parsed-literal" ∷ "include" ∷ "compound" ∷ "container" ∷ "sidebar" ∷ "epigraph" ∷ "highlights" ∷ "pull-quote" ∷ "line-block" ∷ "math" ∷ [])
+        ∷ "parsed-literal" ∷ "include" ∷ "compound" ∷ "container" ∷ "class" ∷ "sidebar" ∷ "epigraph" ∷ "highlights" ∷ "pull-quote" ∷ "line-block" ∷ "math" ∷ "contents" ∷ [])
         ≡ [] }
     ensures wider { filter (λ t. is_wider_directive (codes t)) ("note" ∷ "code" ∷ "Raw" ∷ "PARSED-literal" ∷ "ra" ∷ "raws" ∷ "Math" ∷ "" ∷ [])
         ≡ "Raw" ∷ "PARSED-literal" ∷ "Math" ∷ [] }
@@ -81,6 +84,10 @@ pub fn option_names()
     ensures of_a_sidebar { filter (λ o. has_option SidebarOptions o) (Alt ∷ Class ∷ NameOption ∷ Subtitle ∷ File ∷ []) ≡ Class ∷ NameOption ∷ Subtitle ∷ [] }
     ensures subtitles { filter (λ d. has_option d Subtitle) (NoOptions ∷ Common ∷ NameAlone ∷ SidebarOptions ∷ RawOptions ∷ Include ∷ Image ∷ Figure ∷ [])
         ≡ SidebarOptions ∷ [] }
+    ensures of_contents { filter (λ o. has_option Contents o) (Alt ∷ Class ∷ NameOption ∷ Depth ∷ Local ∷ Backlinks ∷ Inclusion ∷ [])
+        ≡ Class ∷ Depth ∷ Local ∷ Backlinks ∷ [] }
+    ensures contents { map (λ t. option_named (codes t)) ("depth" ∷ "Local" ∷ "backlinks" ∷ []) ≡ Some Depth ∷ Some Local ∷ Some Backlinks ∷ [] }
+    ensures of_contents_alone { filter (λ o. has_option Figure o) (Depth ∷ Local ∷ Backlinks ∷ []) ≡ [] }
     ensures case_of_letters { map (λ t. option_named (codes t)) ("FigWidth" ∷ "alt text" ∷ "number-line" ∷ [])
         ≡ Some FigureWidth ∷ None ∷ None ∷ [] }
     ensures image { filter (λ o. has_option Image o) (Alt ∷ Height ∷ Width ∷ Scale ∷ Align ∷ Target ∷ Class ∷ NameOption ∷ FigureWidth ∷ FigureClass
@@ -145,6 +152,11 @@ pub fn values()
     ensures name { option_meaning Common NameOption (codes "A\n  b") ≡ Some (called (codes "a b")) }
     ensures file { map (λ t. option_meaning RawOptions File (codes t)) ("a.html" ∷ "" ∷ []) ≡ Some (plain (codes "a.html")) ∷ None ∷ [] }
     ensures subtitle { map (λ t. option_meaning SidebarOptions Subtitle (codes t)) ("a *b*" ∷ "" ∷ []) ≡ Some (plain (codes "a *b*")) ∷ None ∷ [] }
+    ensures depth { map (λ t. option_meaning Contents Depth (codes t)) ("2" ∷ "03" ∷ "0" ∷ "-1" ∷ "2%" ∷ "1000000000" ∷ "" ∷ [])
+        ≡ Some (numbered 2) ∷ Some (numbered 3) ∷ Some (numbered 0) ∷ None ∷ None ∷ None ∷ None ∷ [] }
+    ensures local { map (λ t. option_meaning Contents Local (codes t)) ("" ∷ "x" ∷ []) ≡ Some (numbered 1) ∷ None ∷ [] }
+    ensures backlinks { map (λ t. option_meaning Contents Backlinks (codes t)) ("Top" ∷ "entry" ∷ "NONE" ∷ "x" ∷ "" ∷ [])
+        ≡ Some (led_back back.Top) ∷ Some (led_back back.Entry) ∷ Some (led_back back.Nowhere) ∷ None ∷ None ∷ [] }
     ensures height { map (λ t. option_meaning Image Height (codes t)) ("50" ∷ "50%" ∷ []) ≡ Some (measured (codes "50")) ∷ None ∷ [] }
     ensures width { map (λ t. option_meaning Figure Width (codes t)) ("50" ∷ "50%" ∷ [])
         ≡ Some (measured (codes "50")) ∷ Some (measured (codes "50%")) ∷ [] }
@@ -304,12 +316,24 @@ pub fn arguments()
             second = record { from = 2; to = 4; first_cut = 3; rest_cut = 3 };
           };
         }) }
-    ensures with_classes { map (λ t. argument_of Classes (codes t ∷ codes "B" ∷ []) (record { from = 0; to = 2; first_cut = 14; rest_cut = 3 })) ("a"
+    ensures with_classes { map (λ t. argument_of OptionalClasses (codes t ∷ codes "B" ∷ []) (record { from = 0; to = 2; first_cut = 14; rest_cut = 3 })) ("a"
         ∷ "a 1" ∷ [])
         ≡ Ok (classes (codes "a\nB") (Some (codes "a" ∷ codes "b" ∷ []))) ∷ Ok (classes (codes "a 1\nB") None) ∷ [] }
     ensures with_a_title_or_not { map (λ ts. argument_of OptionalTitle ts (record { from = 0; to = 1; first_cut = 12; rest_cut = 3 })) ((codes "a b" ∷ []) ∷ [] ∷ [])
         ≡ Ok (title (record { from = 0; to = 1; first_cut = 12; rest_cut = 3 })) ∷ Ok nothing ∷ [] }
-    ensures no_classes { argument_of Classes [] (record { from = 0; to = 0; first_cut = 0; rest_cut = 0 }) ≡ Ok nothing }
+    ensures no_classes { map (λ kind. argument_of kind [] (record { from = 0; to = 0; first_cut = 0; rest_cut = 0 })) (OptionalClasses ∷ Classes ∷ [])
+        ≡ Ok nothing ∷ Err no_argument ∷ [] }
+    ensures classes_without_options { read_block (kind tag.Class Classes NoOptions Classed allowed.Body) false (record { from = 0; to = 4; first_cut = 10; rest_cut = 3 }) (block ("A_b"
+        ∷ ":name: x" ∷ "" ∷ "c" ∷ []))
+        ≡ Ok (record {
+          kind = kind tag.Class Classes NoOptions Classed allowed.Body;
+          argument = classes (codes "A_b\n:name: x") (Some (codes "a-b" ∷ codes "name" ∷ codes "x" ∷ []));
+          options = [];
+          content = record {
+            first = record { from = 0; to = 0; first_cut = 10; rest_cut = 3 };
+            second = record { from = 3; to = 4; first_cut = 3; rest_cut = 3 };
+          };
+        }) }
 {}
 
 /// What is wrong with an option or an argument, of which the first counts (Markup Specification, 'Directives').
@@ -368,6 +392,10 @@ pub fn places()
         ≡ Some LoneSubtitle ∷ None ∷ [] }
     ensures sidebar { map (λ place. option_map (λ k. content_fault k false place false) (directive_named all_parts (codes "sidebar") true)) (Sections ∷ Body ∷ [])
         ≡ Some None ∷ Some (Some SidebarNotHere) ∷ [] }
+    ensures contents { map (λ place. option_map (λ k. content_fault k true place false) (directive_named all_parts (codes "contents") true)) (Sections ∷ Body ∷ [])
+        ≡ Some None ∷ Some (Some SidebarNotHere) ∷ [] }
+    ensures content_of_contents { option_map (λ k. content_fault k false Sections false) (directive_named all_parts (codes "contents") true)
+        ≡ Some (Some (Inside ContentNotPermitted)) }
     ensures two_paragraphs { option_map (λ k. content_fault k false Body false) (directive_named no_parts (codes "replace") true)
         ≡ Some (Some (Inside NotOneParagraph)) }
 {}

@@ -3,6 +3,7 @@ ghost use Rattle.std.specs.Prelude.{◌≡◌, option_map, IfOk};
 ghost use Rattle.rst_markup_directives.specs.Value as spec;
 
 use super::characters::{is_empty_text, text_from};
+use super::contents::{Backlinks, backlinks_of, depth_of};
 use super::kind::OptionSet;
 use super::measure::{Alignment, alignment_of, measure_of, scale_of};
 use super::option::OptionName;
@@ -18,7 +19,7 @@ pub enum OptionValue {
     Text(String),
     /// The measure of `height`, `width` and `figwidth`.
     Measure(String),
-    /// The number of `scale`.
+    /// The number of `scale` and of `depth`; 1 for `local`, which has no value.
     Number(u64),
     /// The word of `align`.
     Place(Alignment),
@@ -28,6 +29,8 @@ pub enum OptionValue {
     Link { to: Target, source: String },
     /// The name of `name`, white runs being one space and case folded.
     Name(String),
+    /// The word of `backlinks`.
+    Backlinks(Backlinks),
 }
 
 /// What the value of an option of a directive means, or none where the option can't have it.
@@ -65,6 +68,12 @@ pub(crate) fn option_value(
         OptionName::Name => {
             let text = text_from(alloc, value)?;
             Ok(Some(OptionValue::Name(name_of(alloc, text.as_str())?)))
+        }
+        OptionName::Depth => Ok(depth_of(alloc, value)?.map(|number| OptionValue::Number(number))),
+        OptionName::Local if is_empty_text(value) => Ok(Some(OptionValue::Number(1))),
+        OptionName::Local => Ok(None),
+        OptionName::Backlinks => {
+            Ok(backlinks_of(value).map(|backlinks| OptionValue::Backlinks(backlinks)))
         }
         OptionName::Subtitle | OptionName::File | OptionName::Url => {
             if is_empty_text(value) {

@@ -28,5 +28,5 @@ ends_at_halt halt (note ∷ more) = by (halts halt note) refl (ends_at_halt halt
 pub reported_messages : ShowsWhatIsAsked
 reported_messages messages profile settings document =
     let done = sectioned messages profile settings (registration messages document) in
-    let all = all_messages (registration messages document) done.1.reports in
+    let all = all_messages settings (registration messages document) done.1.reports in
     (filtered_reported settings.report (is_number_reported settings.report all) done.0.children, ends_at_halt settings.halt (unnumbered_notes all))

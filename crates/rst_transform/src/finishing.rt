@@ -12,10 +12,12 @@ ghost use Rattle.rst_transform.specs.Finishing.{leaves, transformed, Finishes};
 
 use crate::linking::resolve_links;
 use rst_settings::Settings;
+use rst_transform_contents::contents::contents;
 use rst_transform_docinfo::docinfo::docinfo;
 use rst_transform_messages::Messages;
 use rst_transform_messages::filter::filter;
 use rst_transform_names::register;
+use rst_transform_structure::classes::classes;
 use rst_transform_structure::last_section::last_section;
 use rst_transform_structure::targets::targets;
 use rst_transform_structure::title::title;
@@ -77,7 +79,11 @@ fn left_of(alloc: Global, parsed: Parsed, settings: &Settings) -> Result<(Node, 
         first_number: messages,
         serials: registered.serials,
     };
-    let start = Document::of(registered.root);
+    let start = classes(
+        alloc,
+        Document::of(registered.root),
+        settings.parts.directives,
+    )?;
     let mut list = Messages::of(
         alloc,
         &start.children,
@@ -103,7 +109,7 @@ fn transformed(
     requires { early ≡ false → list_any is_early (items document.children) ≡ false }
     ensures { IfOk result (Makes (transformed (profile_of settings.now) settings.now document) context.old context.new) }
 {
-    let retargeted = with_early(document, early, context)?;
+    let retargeted = with_early(document, early, settings.parts.unmarked, context)?;
     let titled = if settings.title {
         title(retargeted, context)?
     } else {
@@ -114,20 +120,30 @@ fn transformed(
     } else {
         titled
     };
-    let linked = resolve_links(informed, context)?;
+    let listed = if settings.parts.directives {
+        contents(informed, context)?
+    } else {
+        informed
+    };
+    let linked = resolve_links(listed, context)?;
     let after = transitions(linked, context)?;
     Ok(after)
 }
 
 /// A document whose substitution references are replaced, and whose internal targets handed on their ids and names. Most have neither.
-fn with_early(document: Document, early: bool, context: &mut Context) -> Result<Document>
+fn with_early(
+    document: Document,
+    early: bool,
+    unmarked: bool,
+    context: &mut Context,
+) -> Result<Document>
     requires { early ≡ false → list_any is_early (items document.children) ≡ false }
-    ensures { IfOk result (Makes (λ known. let expanded = with_expansions document known in with_targets expanded.0 expanded.1) context.old context.new) }
+    ensures { IfOk result (Makes (λ known. let expanded = with_expansions document known in with_targets unmarked expanded.0 expanded.1) context.old context.new) }
 {
     if !early {
         return Ok(document);
     }
     let expanded = expand(document, context)?;
-    let retargeted = targets(expanded, context)?;
+    let retargeted = targets(expanded, unmarked, context)?;
     Ok(retargeted)
 }

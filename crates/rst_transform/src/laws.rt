@@ -17,12 +17,12 @@ pub fn reported_messages()
     ensures { ShowsWhatIsAsked }
 {}
 
-/// A finished document has at most eleven levels more than the parsed one, if each replacement text has at most two.
+/// A finished document has at most 205 levels more than the parsed one, if each replacement text has at most two.
 pub fn finishing_adds_little()
     ensures levels { (messages : ℕ) (profile : Profile) (settings : Settings) (document : Node) → AreFlat 2 (children_in document)
-        → node_height (leaves messages profile settings document).0 ≤ node_height document + 11 }
+        → node_height (leaves messages profile settings document).0 ≤ node_height document + 205 }
     ensures tree { (messages : ℕ) (profile : Profile) (settings : Settings) (document : Node) → AreFlat 2 (children_in document)
-        → node_height document ≤ 1339 → node_height (leaves messages profile settings document).0 ≤ most_levels }
+        → node_height document ≤ 1345 → node_height (leaves messages profile settings document).0 ≤ most_levels }
 {}
 
 /// The texts of a finished document consist of characters of the parsed document's texts, of those that these fold to, of fixed ones and of the

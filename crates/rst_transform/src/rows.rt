@@ -1,10 +1,11 @@
 //! Worked examples of the order of the transforms and of the settings that they follow, as theorems on the definitions alone.
 #![tactic(auto, unfolding(crate::proofs::Computing::rst_transform))]
 
-ghost use Rattle.std.specs.Prelude.{[], ◌∷◌, false};
+ghost use Rattle.std.specs.Prelude.{[], ◌∷◌, false, true};
+ghost use Rattle.rst_settings.specs.Parts.{no_parts};
 ghost use Rattle.rst_settings.specs.declared.Threshold.TheVariants.{Error, Severe};
-ghost use Rattle.rst_tree.specs.declared.key.Key.TheVariants.{Anonymous, Level, OwnName, Rawsource, Refname};
-ghost use Rattle.rst_tree.specs.declared.tag.Tag.TheVariants.{Field, FieldBody, FieldList, FieldName, Paragraph, Reference, Section, SystemMessage, Target, Title};
+ghost use Rattle.rst_tree.specs.declared.key.Key.TheVariants.{Anonymous, Backlinks, Level, OwnName, Rawsource, Refname};
+ghost use Rattle.rst_tree.specs.declared.tag.Tag.TheVariants.{Contents, Field, FieldBody, FieldList, FieldName, Paragraph, Reference, Section, SystemMessage, Target, Title, Topic};
 ghost use Rattle.rst_transform_names.specs.Trees.{counts, element, paragraph, says, text};
 ghost use Rattle.rst_transform_substitutions.specs.Written.{definition_node, substitution};
 ghost use Rattle.rst_transform_docinfo.specs.Written.{field};
@@ -27,6 +28,11 @@ pub fn titles()
 /// Bibliographic fields are taken before the links are: a reference in a name that dissolves isn't counted (Markup Specification, 'Bibliographic Fields').
 pub fn bibliographic_fields()
     ensures before_anonymous_references { HasMessageTexts usual (element FieldList [] (element Field [] (element FieldName [] (anonymous_reference "Author" "`Author`__" ∷ []) ∷ element FieldBody [] (paragraph "x" ∷ []) ∷ []) ∷ []) ∷ []) [] }
+{}
+
+/// Tables of contents are made before references are resolved: an entry has the text of a reference that fails (Directives, 'Table of Contents').
+pub fn tables_of_contents()
+    ensures before_references { Leaves (record usual { title = false; parts = record no_parts { directives = true } }) (element Topic [] (element Contents (says Backlinks "entry" ∷ []) [] ∷ []) ∷ element Section (says OwnName "s" ∷ []) (element Title [] (element Reference (says Rawsource "b_" ∷ says Refname "b" ∷ []) (text "b" ∷ []) ∷ []) ∷ []) ∷ []) ("<document>" ∷ "    <topic>" ∷ "        <bullet_list>" ∷ "            <list_item>" ∷ "                <paragraph>" ∷ "                    <reference ids=\"toc-entry-1\" refid=\"s\">" ∷ "                        b" ∷ "    <section ids=\"s\" names=\"s\">" ∷ "        <title>" ∷ "            <problematic ids=\"problematic-1\" refid=\"system-message-1\">" ∷ "                b_" ∷ "    <section classes=\"system-messages\">" ∷ "        <title>" ∷ "            Docutils System Messages" ∷ "        <system_message backrefs=\"problematic-1\" ids=\"system-message-1\" level=\"3\" line=\"1\" type=\"ERROR\">" ∷ "            <paragraph>" ∷ "                Unknown target name: \"b\"." ∷ []) }
 {}
 
 /// Substitutions are expanded before references are resolved: each copy of a reference has a message of its own (Markup Specification, 'Substitution Definitions').

@@ -6,7 +6,9 @@ pub mod TransformSubstitutions
 pub mod TransformMessages
 pub mod TransformNames
 pub mod TransformStructure
+pub mod TransformClasses
 pub mod TransformDocinfo
+pub mod TransformContents
 pub mod TransformLinks
 pub mod KeywordTexts
 pub mod LinkTexts

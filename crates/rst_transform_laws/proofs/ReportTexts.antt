@@ -34,7 +34,7 @@ all_set Q (y ∷ xs) (suc i) x h k = (k.0, all_set Q xs i x h k.1)
 -- ---- values of attributes
 
 abbrev becomes_at : ℕ → Bool
-becomes_at code = code == 25 || code == 27 || code == 29
+becomes_at code = code == 1 || code == 28 || code == 30 || code == 32
 
 becomes_by_code : (k : Key) → becomes_text k ≡ becomes_at (key_code k)
 becomes_by_code OwnName = refl

@@ -13,7 +13,6 @@ use Rattle.rst_tree.specs.declared.note.Level.{Level}
 use Rattle.rst_tree.specs.declared.note.Level.TheVariants.{Error}
 use Rattle.rst_tree.specs.declared.tag.Tag.{Tag}
 use Rattle.rst_tree.specs.declared.tag.Tag.TheVariants.{Paragraph, Problematic, SubstitutionDefinition, SystemMessage}
-use Rattle.rst_tree.specs.Attributes.{as_text, value_of}
 use Rattle.rst_tree.specs.Messages.{note_attrs}
 use Rattle.rst_tree.specs.Forest.{Forest, bare, element, words}
 use Rattle.rst_tree.specs.Nodes.{forest_of, join_node, node_height}
@@ -26,10 +25,10 @@ use Rattle.rst_transform_names.specs.declared.queue.Queued.TheVariants.{Present,
 use Rattle.rst_transform_names.specs.DuplicateMessages.{duplicate_words}
 use Rattle.rst_transform_names.specs.Ids.{id_for}
 use Rattle.rst_transform_names.specs.NameMessages.{after_next, before_next, beginning, counted, filled, first_queue, goes_out, is_inline, is_passed_over, is_section, message_on, own_message, taken, takes_in, with_due, with_filled_element, with_own, Filled, Queue}
-use Rattle.rst_transform_names.specs.Names.{own_name}
+use Rattle.rst_transform_names.specs.Names.{name_to_take, own_name}
 use Rattle.rst_transform_names.specs.Registering.{all_registered, nothing_known, registered, registration, with_kind, Register}
 use Rattle.rst_transform_names.specs.Registry.{rule_named}
-use Rattle.rst_transform_names.specs.Written.{attrs_given, given, left_after, message_id, message_ids_of, problematic_id, with_backrefs, with_first, with_given, with_id, with_name, with_refid, with_standing, Given}
+use Rattle.rst_transform_names.specs.Written.{attrs_given, given, left_after, message_id, message_ids_of, problematic_id, with_backrefs, with_first, with_given, with_id, with_name, with_refid, with_standing, Given, name_got}
 use Rattle.rst_transform_work.specs.States.{document_in}
 use Rattle.rst_tree_laws.specs.Texts.{AttrsHave, NodeHas, TextsHave, becomes_text, is_fixed}
 use Rattle.rst_tree_index.specs.Parsed.{levels_by, AreFlat}
@@ -75,7 +74,7 @@ module _ (T : List ℕ → Type 0) where
       first_has _ g.numbers a h (λ n. id_has (Some (problematic_id n)) _ refid)
   attrs_have SystemMessage g a h = first_has _ g.numbers a h (λ n. id_has (Some (message_id n)) _ (backrefs_have (unwrap_or (option_map (λ (m : MessageIds). m.problematics) (message_ids_of g.messages a)) []) a h))
   attrs_have _ g a h =
-      first_has with_standing g.standings a h (λ s. id_has s.id _ (name_has s.lost (as_text (value_of OwnName a)) _ (with_attr_has T Serial (Number s.serial) a tt h)))
+      first_has with_standing g.standings a h (λ s. id_has s.id _ (name_has s.lost (name_got s a) _ (with_attr_has T Serial (Number s.serial) a tt h)))
 
   given_same : (s : Given) (x : Item) → ((heeded_out is_registered with_given s x).tag ≡ x.tag) × (AttrsHave T x.attrs → AttrsHave T (heeded_out is_registered with_given s x).attrs)
   given_same s x = cond_both (is_registered x) (with_given s x) x (λ y. (y.tag ≡ x.tag) × (AttrsHave T x.attrs → AttrsHave T y.attrs)) (λ _. (refl, attrs_have x.tag s x.attrs)) (λ _. (refl, λ h. h))
@@ -183,8 +182,8 @@ module _ (P : ℕ → Bool) (T : List ℕ → Type 0) (s : Suited P T) where
         all_append _ r.name_messages _ e (note_mapped _ (r.definitions (own_name new)) (λ n. note_fits [] Error (codes "Duplicate substitution definition name: \"") new refl has), tt)
     kind_fits _ new r has e =
         all_append _ r.name_messages _ e (
-          note_mapped _ (rule_named (own_name new) (r.names (own_name new)) new).message
-              (λ m. note_fits (id_for r.ids new.tag (own_name new) ∷ []) m.level (duplicate_words m.strength) new (search arith) has),
+          note_mapped _ (rule_named (name_to_take r.names new) (r.names (own_name new)) new).message
+              (λ m. note_fits (id_for r.ids new.tag (name_to_take r.names new) ∷ []) m.level (duplicate_words m.strength) new (search arith) has),
           tt,
         )
 

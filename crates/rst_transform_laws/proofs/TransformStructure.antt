@@ -7,7 +7,7 @@ use Rattle.std.proofs.lemmas.Bool.{cond_both}
 use Rattle.rst_settings.specs.declared.Threshold.{Threshold}
 use Rattle.rst_tree.specs.declared.attrs.Attr.{Attr}
 use Rattle.rst_tree.specs.declared.attrs.Value.TheVariants.{Text as Says}
-use Rattle.rst_tree.specs.declared.key.Key.TheVariants.{Dupnames, Ids, Names as OfNames, Refid, Title}
+use Rattle.rst_tree.specs.declared.key.Key.TheVariants.{Classes, Dupnames, Ids, Names as OfNames, Refid, Title}
 use Rattle.rst_tree.specs.declared.node.Node.{Node}
 use Rattle.rst_tree.specs.declared.node.Node.TheVariants.{Element, Text}
 use Rattle.rst_tree.specs.declared.note.Level.TheVariants.{Error}
@@ -17,7 +17,7 @@ use Rattle.rst_tree.specs.Attributes.{without_key}
 use Rattle.rst_tree.specs.Forest.{Forest, bare, element, words}
 use Rattle.rst_tree.specs.Nodes.{nodes_of}
 use Rattle.rst_tree.specs.Tree.{text_in}
-use Rattle.rst_tree.specs.Walk.{Item, items}
+use Rattle.rst_tree.specs.Walk.{Item}
 use Rattle.rst_tree_index.specs.Kinds.{is_transition}
 use Rattle.rst_transform_names.specs.NameMessages.{is_section}
 use Rattle.rst_transform_work.specs.declared.document.Document.{Document}
@@ -27,8 +27,8 @@ use Rattle.rst_transform_work.specs.Lists.{listed_texts, with_listed, with_names
 use Rattle.rst_transform_work.specs.Reading.{may_precede}
 use Rattle.rst_transform_work.specs.Reports.{next_report, report_node}
 use Rattle.rst_transform_structure.specs.LastSection.{heading, ids_moved, is_reported, own_nodes, with_last_section}
-use Rattle.rst_transform_structure.specs.Targets.{at_first, changed_item, hands_on, next_reached, referring, with_first_refid, with_ids_and_names, with_targets, Reached}
-use Rattle.rst_transform_structure.specs.Title.{lone_section, section_in, subtitle, subtitled_by, title_attrs, titled_by, with_before, with_title}
+use Rattle.rst_transform_structure.specs.Targets.{at_first, changed_item, hands_on, is_first_passed, next_reached, referring, with_first_refid, with_ids_and_names, with_targets, Reached}
+use Rattle.rst_transform_structure.specs.Title.{lone_section, section_in, subtitle, subtitled_by, title_attrs, titled_by, with_before, with_section, with_title}
 use Rattle.rst_transform_structure.specs.Transitions.{fault_after, nodes_before, placed_in, placed_section, placed_transition, staying, transition_fault_text, transition_message, with_transitions}
 use Rattle.rst_tree_laws.specs.Texts.{AttrsHave}
 use Rattle.rst_tree_laws.proofs.Have.{with_attr_has, without_key_has}
@@ -44,13 +44,19 @@ module _ (P : ℕ → Bool) (T : List ℕ → Type 0) (s : Suited P T) where
   refid_has : (ids : List (List ℕ)) (a : List Attr) → AttrsHave T a → AttrsHave T (with_first_refid ids a)
   refid_has ids a h = elim ids as (λ ids. AttrsHave T (with_first_refid ids a)) [ [] ↦ h | ◌∷◌ id more ↦ with_attr_has T Refid (Says id) a tt h ]
 
-  pub targets_held : (m : ℕ) (document : Document) (known : Known) → DocumentHeld T m document → DocumentHeld T m (with_targets document known).0
-  targets_held m document known h =
-      let changed = λ (r : Reached) (x : Item) (own : AttrsHave T x.attrs). cond_both (hands_on r x) (referring x.attrs) (with_ids_and_names r.handed x.attrs) (AttrsHave T)
-      (λ _. refid_has (listed_texts Ids x.attrs) _ (without_key_has T Dupnames (without_key OfNames (without_key Ids x.attrs)) (without_key_has T OfNames (without_key Ids x.attrs) (without_key_has T Ids x.attrs own))))
-      (λ _. with_listed_has T OfNames r.handed.names (with_listed Ids r.handed.ids x.attrs) (with_listed_has T Ids r.handed.ids x.attrs own)) in
-      let w = walked_same T next_reached changed_item (λ r x. (refl, changed r x)) 0 (at_first (items document.children)) document.children in
-      ((omega (arith, h.0.0, w.0, (levels_low 0 (with_targets document known).0.children).0, (levels_low 0 document.children).1), w.2 h.0.1), h.1)
+  referring_has : (unmarked : Bool) (attrs : List Attr) → AttrsHave T attrs → AttrsHave T (referring unmarked attrs)
+  referring_has unmarked attrs own =
+      let left : List Attr = without_key OfNames (without_key Ids attrs) in
+      let has = without_key_has T OfNames (without_key Ids attrs) (without_key_has T Ids attrs own) in
+      refid_has (listed_texts Ids attrs) _ (cond_both unmarked left (without_key Dupnames left) (AttrsHave T) (λ _. has) (λ _. without_key_has T Dupnames left has))
+
+  pub targets_held : (m : ℕ) (unmarked : Bool) (document : Document) (known : Known) → DocumentHeld T m document → DocumentHeld T m (with_targets unmarked document known).0
+  targets_held m unmarked document known h =
+      let changed = λ (r : Reached) (x : Item) (own : AttrsHave T x.attrs). cond_both (is_first_passed r.takers) x.attrs _ (AttrsHave T) (λ _. own)
+      (λ _. cond_both (hands_on r x) (referring r.unmarked x.attrs) (with_ids_and_names r.handed x.attrs) (AttrsHave T) (λ _. referring_has r.unmarked x.attrs own)
+      (λ _. with_listed_has T OfNames r.handed.names (with_listed Ids r.handed.ids x.attrs) (with_listed_has T Ids r.handed.ids x.attrs own))) in
+      let w = walked_same T next_reached changed_item (λ r x. (refl, changed r x)) 0 (at_first unmarked document.children) document.children in
+      ((omega (arith, h.0.0, w.0, (levels_low 0 (with_targets unmarked document known).0.children).0, (levels_low 0 document.children).1), w.2 h.0.1), h.1)
 
   -- ---- the title
 
@@ -74,15 +80,18 @@ module _ (P : ℕ → Bool) (T : List ℕ → Type 0) (s : Suited P T) where
   subtitle_held k a (Element t b c l) h g = (g.0, (h, g.1.1))
   subtitle_held k a (Text t) h g = g
 
+  section_has : (from attrs : List Attr) → AttrsHave T attrs → AttrsHave T (with_section from attrs)
+  section_has from attrs h = with_listed_has T Classes (listed_texts Classes from) (with_names from attrs) (with_names_has T from attrs h)
+
   subtitled_held : (k : ℕ) (o : Option _) (f : Forest) → let done = subtitled_by o f in IfSome o (λ one. Held T k one.title × ForestHeld T k one.body) → ForestHeld T k f → ForestHeld T k done
   subtitled_held k None f h g = g
-  subtitled_held k (Some one) f h g = held_joined T k _ one.body (subtitle_held k (with_names one.attrs []) one.title (with_names_has T one.attrs [] tt) h.0) h.1
+  subtitled_held k (Some one) f h g = held_joined T k _ one.body (subtitle_held k (with_section one.attrs []) one.title (section_has one.attrs [] tt) h.0) h.1
 
   titled_held : (m : ℕ) (o : Option _) (d : Document) → let done = titled_by o d.children in IfSome o (λ one. Held T m one.title × ForestHeld T m one.body) → DocumentHeld T m d
       → ForestHeld T m done × AttrsHave T (title_attrs o d.attrs)
   titled_held m None d h g = g
   titled_held m (Some one) d h g =
-      (held_joined T m one.title _ h.0 (subtitled_held m (lone_section one.body) one.body (lone_held m one.body h.1) h.1), with_names_has T one.attrs _ (with_attr_has T Title (Says (text_in one.title)) d.attrs tt g.1))
+      (held_joined T m one.title _ h.0 (subtitled_held m (lone_section one.body) one.body (lone_held m one.body h.1) h.1), section_has one.attrs _ (with_attr_has T Title (Says (text_in one.title)) d.attrs tt g.1))
 
   pub title_held : (m : ℕ) (document : Document) (known : Known) → DocumentHeld T m document → DocumentHeld T m (with_title document known).0
   title_held m document known h = titled_held m (lone_section document.children) document (lone_held m document.children h.0) h
@@ -109,24 +118,25 @@ module _ (P : ℕ → Bool) (T : List ℕ → Type 0) (s : Suited P T) where
   before_placed : (k : ℕ) (own : List Node × List Report) (rest : List Report → List Node × List Report) → Placed k own → ((rs : List Report) → ReportsHave T rs → Placed k (rest rs)) → Placed k (nodes_before own.0 (rest own.1))
   before_placed k own rest h g = let more = g own.1 h.1 in (all_append _ own.0 (rest own.1).0 h.0 more.0, more.1)
 
-  all_placed : (k first : ℕ) (ends : Bool) (fault : Option _) (f : Forest) (reports : List Report) → ForestHeld T (k - 3) f → 3 ≤ k → ReportsHave T reports
+  all_placed : (k first : ℕ) (ends : Bool) (fault : Option _) (f : Forest) (reports : List Report) → ForestHeld T (k - 2) f → ReportsHave T reports
       → Placed k (placed_in first ends fault f reports)
   unfolding placed_in placed_transition
-  all_placed k first ends fault bare reports h some g = (tt, g)
-  all_placed k first ends fault (words t r) reports h some g = let more = all_placed k first ends None r reports (omega (arith, h.0), h.1.1) some g in (((omega arith, h.1.0), more.0), more.1)
-  all_placed k first ends fault (element t a c l r) reports h some g =
+  all_placed k first ends fault bare reports h g = (tt, g)
+  all_placed k first ends fault (words t r) reports h g = let more = all_placed k first ends None r reports (omega (arith, h.0), h.1.1) g in (((omega arith, h.1.0), more.0), more.1)
+  all_placed k first ends fault (element t a c l r) reports h g =
+      let some : 3 ≤ k = omega (arith, h.0) in
       let last : Bool = ends && length (nodes_of r) == 0 in
       let held : Held T k (Element t a c l) = (omega (arith, h.0), (h.1.0, h.1.1)) in
       before_placed k _ (λ rs. placed_in first ends (fault_after (Element t a c l) fault) r rs)
-      (cond_both (is_section t) _ _ (Placed k) (λ _. section_placed k t a l _ (omega arith) h.1.0 (all_placed (k - 1) first last _ c reports (omega (arith, h.0), h.1.1) (omega (arith, h.0)) g))
+      (cond_both (is_section t) _ _ (Placed k) (λ _. section_placed k t a l _ (omega arith) h.1.0 (all_placed (k - 1) first last _ c reports (omega (arith, h.0), h.1.1) g))
       (λ _. cond_both (is_transition t) _ _ (Placed k)
       (λ _. let above = message_placed k first l fault reports some g in let below = message_placed k first l _ _ some above.1 in (all_append _ _ _ above.0 (held, below.0), below.1)) (λ _. ((held, tt), g))))
-      (λ rs more. all_placed k first ends (fault_after (Element t a c l) fault) r rs (omega (arith, h.0), h.1.2) some more)
+      (λ rs more. all_placed k first ends (fault_after (Element t a c l) fault) r rs (omega (arith, h.0), h.1.2) more)
 
-  pub transitions_held : (m : ℕ) (document : Document) (known : Known) → DocumentHeld T m document → KnownHas T known → let done = with_transitions document known in DocumentHeld T (m + 3) done.0 × KnownHas T done.1
+  pub transitions_held : (m : ℕ) (document : Document) (known : Known) → DocumentHeld T m document → KnownHas T known → let done = with_transitions document known in DocumentHeld T (m + 2) done.0 × KnownHas T done.1
   transitions_held m document known h g =
-      let all = all_placed (m + 3) known.first_number true _ document.children known.reports (omega (arith, h.0.0), h.0.1) (omega arith) g in
-      ((held_forest T (m + 3) _ all.0, h.1), all.1)
+      let all = all_placed (m + 2) known.first_number true _ document.children known.reports (omega (arith, h.0.0), h.0.1) g in
+      ((held_forest T (m + 2) _ all.0, h.1), all.1)
 
   -- ---- the last section
 

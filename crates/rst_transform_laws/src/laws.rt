@@ -12,10 +12,12 @@ ghost use Rattle.rst_transform_work.specs.Known.{Known};
 ghost use Rattle.rst_transform_substitutions.specs.Expanded.{with_expansions};
 ghost use Rattle.rst_transform_references.specs.declared.links.Change.{Change};
 ghost use Rattle.rst_transform_references.specs.Changes.{changed_document};
+ghost use Rattle.rst_transform_structure.specs.Classes.{with_classes};
 ghost use Rattle.rst_transform_structure.specs.LastSection.{with_last_section};
 ghost use Rattle.rst_transform_structure.specs.Targets.{with_targets};
 ghost use Rattle.rst_transform_structure.specs.Title.{with_title};
 ghost use Rattle.rst_transform_structure.specs.Transitions.{with_transitions};
+ghost use Rattle.rst_transform_contents.specs.Contents.{with_contents};
 ghost use Rattle.rst_transform_docinfo.specs.Docinfo.{with_docinfo};
 ghost use Rattle.rst_transform_messages.specs.Filtered.{with_filtered};
 ghost use Rattle.rst_tree_index.specs.Parsed.{AreFlat, levels_by};
@@ -29,11 +31,13 @@ pub fn names_add_little()
         → AreFlat h (document_in document).children → AreFlat (h + 3) (document_in (registration messages document).root).children }
 {}
 
-/// Targets and titles add no level, transitions at most those of a message, and the last section has four.
+/// Classes by directives add at most one level, targets and titles none, transitions two, beside which the messages on them stand, and the last section
+/// has four.
 pub fn structure_adds_little()
-    ensures targets { (document : Document) (known : Known) → height ((with_targets document known).0).children ≤ height document.children }
+    ensures classes { (directives : Bool) (document : Document) → height (with_classes directives document).children ≤ height document.children + 1 }
+    ensures targets { (unmarked : Bool) (document : Document) (known : Known) → height ((with_targets unmarked document known).0).children ≤ height document.children }
     ensures title { (document : Document) (known : Known) → height ((with_title document known).0).children ≤ height document.children }
-    ensures transitions { (document : Document) (known : Known) → height ((with_transitions document known).0).children ≤ height document.children + 3 }
+    ensures transitions { (document : Document) (known : Known) → height ((with_transitions document known).0).children ≤ height document.children + 2 }
     ensures last_section { (report : Threshold) (document : Document) (known : Known)
         → height ((with_last_section report document known).0).children ≤ max (height document.children) 4 }
 {}
@@ -47,6 +51,11 @@ pub fn filter_adds_nothing()
 /// Bibliographic fields add at most the levels of a message in the body of a field.
 pub fn docinfo_adds_little()
     ensures { (parts : Parts) (document : Document) (known : Known) → height ((with_docinfo parts document known).0).children ≤ height document.children + 3 }
+{}
+
+/// Tables of contents add at most 194 levels.
+pub fn contents_add_levels()
+    ensures { (document : Document) (known : Known) → height ((with_contents document known).0).children ≤ height document.children + 194 }
 {}
 
 /// Where each replacement text has at most `h` levels, with each substitution reference in it counted as `h`, a document whose references are

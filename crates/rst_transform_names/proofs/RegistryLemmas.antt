@@ -5,15 +5,18 @@ use Rattle.std.specs.BTreeMap.{get_by_text, UpdatesBy}
 use Rattle.std.specs.Cmp.Lexicographic.{slice_cmp, nat_list_eq_equiv}
 use Rattle.std.proofs.lemmas.Map.Text.{btree_map_updates_text}
 use Rattle.std.proofs.lemmas.List.{with_items_is}
-use Rattle.std.specs.Prelude.{if◌then◌else◌, slice_index_or}
+use Rattle.std.specs.Prelude.{if◌then◌else◌, ◌&&◌, is_some, true, false, slice_index_or}
 use Rattle.std.specs.Vec.{with_items}
 use Rattle.rst_tree.specs.Paths.{map_at}
+use Rattle.rst_tree.specs.Walk.{Item}
 use Rattle.rst_transform_names.specs.declared.names.Holder.{Holder}
+use Rattle.rst_transform_names.specs.declared.names.NameEntry.{NameEntry}
 use Rattle.rst_transform_names.specs.declared.names.Holder.TheVariants.{Nobody as Lost, Element, Unregistered}
 use Rattle.rst_transform_names.specs.declared.registry.Registry.{Registry}
 use Rattle.rst_transform_names.specs.declared.registry.Standing.{Standing}
 use Rattle.rst_transform_names.specs.Registering.{Holds, Register}
-use Rattle.rst_transform_names.specs.Registry.{without_name, losing}
+use Rattle.rst_transform_names.specs.Names.{is_table_of_contents, name_to_take, own_name}
+use Rattle.rst_transform_names.specs.Registry.{without_name, losing, rule_named}
 use Rattle.rst_transform_names.specs.Written.{given}
 
 -- a list changed at a place in it, and at one after it
@@ -50,3 +53,7 @@ entered old new name w h other = btree_map_updates_text name old new w h other �
 -- what the program writes at the elements
 pub given_same : (g : Registry) (r : Register) → Holds g r → given g.standings.items g.known_messages.numbers.items g.known_messages.messages.items ≡ given r.standings r.numbers r.messages
 given_same g r h = cc (h.standings, h.numbers, h.messages)
+
+-- the rule for the name that an element is to get; where that is none, nothing that is known counts
+pub rule_of_taken : (names : List ℕ → Option NameEntry) (new : Item) → rule_named (name_to_take names new) (names (name_to_take names new)) new ≡ rule_named (name_to_take names new) (names (own_name new)) new
+rule_of_taken names new = elim (is_table_of_contents new && is_some (names (own_name new))) as (λ none. let name = if none then [] else own_name new in rule_named name (names name) new ≡ rule_named name (names (own_name new)) new) [ true ↦ refl | false ↦ refl ]

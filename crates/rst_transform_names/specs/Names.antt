@@ -1,10 +1,12 @@
 -- Names and who holds them.
-use Rattle.std.specs.Prelude.{ℕ, List, [], Option, Some, None, unwrap_or, if◌then◌else◌, ◌≡◌, Result, Ok, Err}
+use Rattle.std.specs.Prelude.{ℕ, Bool, true, false, ◌&&◌, is_some, List, [], Option, Some, None, unwrap_or, if◌then◌else◌, ◌≡◌, Result, Ok, Err}
 use Rattle.std.specs.BTreeMap.{get_by_text}
 use Rattle.std.specs.Str.{bytes_eq}
 use Rattle.std.specs.declared.alloc.AllocError.{AllocError}
-use Rattle.rst_tree.specs.declared.key.Key.TheVariants.{OwnName}
-use Rattle.rst_tree.specs.Attributes.{as_text, value_of}
+use Rattle.rst_tree.specs.declared.key.Key.TheVariants.{OwnName, TextMessages}
+use Rattle.rst_tree.specs.declared.tag.Tag.{Tag}
+use Rattle.rst_tree.specs.declared.tag.Tag.TheVariants.{Topic}
+use Rattle.rst_tree.specs.Attributes.{as_number, as_text, value_of}
 use Rattle.rst_tree.specs.Walk.{Item}
 use Rattle.rst_transform_names.specs.declared.names.NameEntry.{NameEntry}
 use Rattle.rst_transform_names.specs.declared.names.Holder.{Holder}
@@ -13,6 +15,18 @@ use Rattle.rst_transform_names.specs.declared.names.Names.{Names}
 -- the name that an element was written with; the empty name is none
 abbrev pub own_name : Item → List ℕ
 own_name x = unwrap_or (as_text (value_of OwnName x.attrs)) []
+
+abbrev pub is_topic : Tag → Bool
+is_topic Topic = true
+is_topic _ = false
+
+-- an element is a table of contents: of all topics these alone have the number of the messages on their titles, which follow them
+abbrev pub is_table_of_contents : Item → Bool
+is_table_of_contents x = is_topic x.tag && is_some (as_number (value_of TextMessages x.attrs))
+
+-- the name that a new element is to get, by what is known of names: of a table of contents none if something is known of the name already
+abbrev pub name_to_take : (List ℕ → Option NameEntry) → Item → List ℕ
+name_to_take names x = if is_table_of_contents x && is_some (names (own_name x)) then [] else own_name x
 
 -- what is known of a name
 abbrev pub entry_named : Names → List ℕ → Option NameEntry

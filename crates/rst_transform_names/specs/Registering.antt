@@ -1,6 +1,6 @@
 -- The registration of all elements, one after the other, in preorder (Document Tree, attributes `ids`, `names`, `dupnames`,
 -- `refid` and `backrefs`; reStructuredText Markup Specification, 'Implicit Hyperlink Targets').
-use Rattle.std.specs.Prelude.{◌≡◌, ℕ, false, if◌then◌else◌, List, [], ◌∷◌, ◌++◌, Option, Some, None, option_map, length, filter, replicate}
+use Rattle.std.specs.Prelude.{◌≡◌, ◌==◌, ℕ, false, if◌then◌else◌, List, [], ◌∷◌, ◌++◌, Option, Some, None, option_map, length, filter, replicate}
 use Rattle.std.specs.BTreeMap.{get_by_text}
 use Rattle.std.specs.Str.{bytes_eq}
 use Rattle.rst_tree.specs.declared.key.Key.TheVariants.{Message}
@@ -21,7 +21,7 @@ use Rattle.rst_transform_names.specs.declared.registry.Standing.{Standing}
 use Rattle.rst_transform_names.specs.Ids.{id_for, least_free, id_with_number, AreTaken}
 use Rattle.rst_transform_names.specs.DuplicateMessages.{duplicate_definition, duplicate_name}
 use Rattle.rst_transform_names.specs.NameMessages.{message_on, with_name_messages}
-use Rattle.rst_transform_names.specs.Names.{own_name, with_entry, AreRegistered}
+use Rattle.rst_transform_names.specs.Names.{name_to_take, own_name, with_entry, AreRegistered}
 use Rattle.rst_transform_names.specs.Registry.{definer, known_by, losing, rule_named, standing}
 use Rattle.rst_transform_names.specs.Written.{given, left_after, problematic_id, with_given}
 
@@ -77,21 +77,22 @@ with_definition new r =
     let earlier = r.definitions (own_name new) in
     record r {
       definitions = λ name. if bytes_eq name (own_name new) then Some number else r.definitions name;
-      standings = losing (definer earlier) r.standings ++ standing number None false ∷ [];
+      standings = losing (definer earlier) r.standings ++ standing number None false false ∷ [];
       name_messages = r.name_messages ++ option_map (λ (n : ℕ). duplicate_definition new) earlier ∷ [];
     }
 
--- any other element gets its id, and its name by the rule for it, if it has one
+-- any other element gets its id, and its name by the rule for it, if it is to get one
 abbrev pub with_named : Item → Register → Register
 with_named new r =
-    let id = id_for r.ids new.tag (own_name new) in
+    let name = name_to_take r.names new in
+    let id = id_for r.ids new.tag name in
     let number = length r.standings in
     let entry = r.names (own_name new) in
-    let rule = rule_named (own_name new) entry new in
+    let rule = rule_named name entry new in
     record r {
       ids = id ∷ r.ids;
       names = with_entry (own_name new) (known_by rule.now number new id entry) r.names;
-      standings = losing rule.loser r.standings ++ standing number (Some id) rule.new_loses ∷ [];
+      standings = losing rule.loser r.standings ++ standing number (Some id) (length name == 0) rule.new_loses ∷ [];
       name_messages = r.name_messages ++ option_map (λ message. duplicate_name message new id) rule.message ∷ [];
     }
 

@@ -18,13 +18,16 @@ use Rattle.rst_transform_names.specs.declared.registry.Standing.{Standing}
 use Rattle.rst_transform_names.specs.declared.rulings.Now.{Now}
 use Rattle.rst_transform_names.specs.declared.rulings.Now.TheVariants.{Old, New, Nobody}
 use Rattle.rst_transform_names.specs.declared.rulings.Ruling.{Ruling}
-use Rattle.rst_transform_names.specs.Names.{with_holder}
+use Rattle.rst_transform_names.specs.Names.{is_table_of_contents, with_holder}
 use Rattle.rst_transform_names.specs.Rulings.{ruling_for}
 
--- how elements of a kind give their names
-abbrev pub strength_of : Tag → Strength
-strength_of Section = Implicit
-strength_of _ = Explicit
+-- how an element gives its name: sections and tables of contents implicitly
+abbrev pub strength_by : Tag → Bool → Strength
+strength_by Section table = Implicit
+strength_by _ table = if table then Implicit else Explicit
+
+abbrev pub strength_of : Item → Strength
+strength_of x = strength_by x.tag (is_table_of_contents x)
 
 -- both have a text, and it is the same
 abbrev pub is_same_text : Option (List ℕ) → Option (List ℕ) → Bool
@@ -38,18 +41,18 @@ target_uri x = if is_target x.tag then as_text (value_of Refuri x.attrs) else No
 
 -- the rule for the name of a new element, by what is known of the name; two targets may have one URI
 abbrev pub rule_by : Option NameEntry → Item → Ruling
-rule_by None new = ruling_for None (strength_of new.tag) false
-rule_by (Some entry) new = ruling_for (Some (entry.strength, entry.holder)) (strength_of new.tag) (is_same_text entry.uri (target_uri new))
+rule_by None new = ruling_for None (strength_of new) false
+rule_by (Some entry) new = ruling_for (Some (entry.strength, entry.holder)) (strength_of new) (is_same_text entry.uri (target_uri new))
 
 -- what is known of the name from now on; the element has a number and an id
 abbrev pub known_by : Now → ℕ → Item → List ℕ → Option NameEntry → Option NameEntry
 known_by Old number new id entry = entry
 known_by Nobody number new id entry = with_holder Lost entry
-known_by New number new id entry = Some (record { holder = Element number; strength = strength_of new.tag; id = id; uri = target_uri new })
+known_by New number new id entry = Some (record { holder = Element number; strength = strength_of new; id = id; uri = target_uri new })
 
 -- what an element got that loses its name
 abbrev pub without_name : Standing → Standing
-without_name s = record { serial = s.serial; id = s.id; lost = true }
+without_name s = record s { lost = true }
 
 -- the elements' standings, where the holder of a name has it as a duplicate one only
 abbrev pub losing : Holder → List Standing → List Standing
@@ -62,8 +65,8 @@ abbrev pub rule_named : List ℕ → Option NameEntry → Item → Ruling
 rule_named [] entry new = record { now = Old; loser = Lost; new_loses = false; message = None }
 rule_named (c ∷ cs) entry new = rule_by entry new
 
-abbrev pub standing : ℕ → Option (List ℕ) → Bool → Standing
-standing number id lost = record { serial = number; id = id; lost = lost }
+abbrev pub standing : ℕ → Option (List ℕ) → Bool → Bool → Standing
+standing number id unnamed lost = record { serial = number; id = id; unnamed = unnamed; lost = lost }
 
 -- the substitution definition that had a name
 abbrev pub definer : Option ℕ → Holder

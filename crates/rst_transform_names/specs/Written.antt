@@ -21,9 +21,13 @@ with_name lost None attrs = attrs
 with_name lost (Some []) attrs = attrs
 with_name lost (Some (c ∷ cs)) attrs = with_attr (if lost then Dupnames else Names) (Listed ((c ∷ cs) ∷ [])) attrs
 
+-- the name that an element was written with, unless it got none
+abbrev pub name_got : Standing → List Attr → Option (List ℕ)
+name_got standing attrs = if standing.unnamed then None else as_text (value_of OwnName attrs)
+
 -- with all that registration gave an element that may have a name: its number, its name and its id
 abbrev pub with_standing : Standing → List Attr → List Attr
-with_standing standing attrs = with_id standing.id (with_name standing.lost (as_text (value_of OwnName attrs)) (with_attr Serial (Number standing.serial) attrs))
+with_standing standing attrs = with_id standing.id (with_name standing.lost (name_got standing attrs) (with_attr Serial (Number standing.serial) attrs))
 
 -- the ids of problematics and of messages, by their numbers
 abbrev pub problematic_id : ℕ → List ℕ

@@ -93,7 +93,9 @@ impl Ids {
     }
 
     /// Takes the first free id of a text, a hyphen and a number from 1.
-    fn give_numbered(&mut self, alloc: Global, base: &str) -> Result<Text>
+    ///
+    /// Fails only if memory runs out; the same ids are then taken as before.
+    pub fn give_numbered(&mut self, alloc: Global, base: &str) -> Result<Text>
         ensures { GivesNumbered base.now self.old self.new result }
     {
         let number = self.free_number(alloc, base)?;

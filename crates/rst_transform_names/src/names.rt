@@ -20,7 +20,7 @@ pub enum Holder {
 /// How a name was given (reStructuredText Markup Specification, 'Implicit Hyperlink Targets').
 #[derive(Clone, Copy, Debug, PartialEq, Eq)]
 pub enum Strength {
-    /// By a section's title.
+    /// By a section's title, or by a table of contents.
     Implicit,
     /// By any other element.
     Explicit,

@@ -28,8 +28,9 @@ pub struct Registered {
 /// (Document Tree) their id, those with a name the name, or the duplicate name where another one has it, and equal names
 /// their messages.
 ///
-/// Sections give their names implicitly, other elements explicitly; of an element that has two equal names the rules of
-/// 'Implicit Hyperlink Targets' (reStructuredText Markup Specification) decide which keeps it. Of substitution definitions with
+/// Sections and tables of contents give their names implicitly, other elements explicitly; of two elements with equal names the rules of
+/// 'Implicit Hyperlink Targets' (reStructuredText Markup Specification) decide which keeps it. A table gets its name only if no element before
+/// it was written with it. Of substitution definitions with
 /// equal names the last keeps it.
 ///
 /// ```text

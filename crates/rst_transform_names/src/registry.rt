@@ -12,7 +12,7 @@ use super::duplicate_messages::{duplicate_definition, duplicate_name};
 use super::ids::Ids;
 use super::message_ids::KnownMessages;
 use super::names::{Holder, NameEntry, Names, Strength};
-use super::registrants::own_name;
+use super::registrants::{is_table_of_contents, own_name};
 use super::rulings::{NO_RULING, Now, Ruling, ruling_for};
 use rst_tree::{Key, Node, Result, Tag, Text};
 use rst_tree_index::Element;
@@ -26,6 +26,8 @@ pub struct Standing {
     pub serial: u64,
     /// Its id; a substitution definition has none.
     pub id: Option<Text>,
+    /// Whether it has no name, though it was written with one.
+    pub unnamed: bool,
     /// Whether its name is a duplicate one.
     pub lost: bool,
 }
@@ -84,9 +86,10 @@ impl Registry {
         ensures { IfOk result (λ _. Makes (with_named (item_of new.entry)) self.old self.new) }
     {
         let serial = self.standings.len() as u64;
-        let name = own_name(new);
+        let name = name_to_take(&self.names, new);
         let id = self.ids.give(alloc, new.tag, name)?;
         let ruling = ruling_on(&self.names, name, new);
+        let unnamed = name.is_empty();
         let message = match ruling.message {
             Some(asked) => Some(duplicate_name(alloc, asked, new, &id)?),
             None => None,
@@ -97,6 +100,7 @@ impl Registry {
         self.standings.push(Standing {
             serial,
             id: Some(id),
+            unnamed,
             lost: ruling.new_loses,
         })?;
         Ok(())
@@ -119,9 +123,22 @@ impl Registry {
         self.standings.push(Standing {
             serial,
             id: None,
+            unnamed: false,
             lost: false,
         })?;
         Ok(())
+    }
+}
+
+/// The name that a new element is to get: of a table of contents none if something is known of the name already.
+fn name_to_take<'a>(names: &Names, new: Element<'a>) -> &'a str
+    ensures { result.now ≡ spec.name_to_take (entry_named names.now) (item_of new.entry) }
+{
+    let name = own_name(new);
+    if is_table_of_contents(new) && names.get(name).is_some() {
+        ""
+    } else {
+        name
     }
 }
 
@@ -132,7 +149,7 @@ fn ruling_on(names: &Names, name: &str, new: Element<'_>) -> Ruling
     if name.is_empty() {
         return NO_RULING;
     }
-    let strength = strength_of(new.tag);
+    let strength = strength_of(new);
     match names.get(name) {
         None => ruling_for(None, strength, false),
         Some(registered) => {
@@ -169,7 +186,7 @@ fn follow(
         Now::New => {
             let registered = NameEntry {
                 holder: Holder::Element(serial),
-                strength: strength_of(new.tag),
+                strength: strength_of(new),
                 id: id.copy()?,
                 uri: copied_text(target_uri(new))?,
             };
@@ -190,12 +207,13 @@ fn lose(standings: &mut [Standing], holder: Holder)
     }
 }
 
-/// How elements of a kind give their names.
-fn strength_of(tag: Tag) -> Strength
-    ensures { result ≡ strength_of tag }
+/// How an element gives its name.
+fn strength_of(element: Element<'_>) -> Strength
+    ensures { result ≡ strength_of (item_of element.entry) }
 {
-    match tag {
+    match element.tag {
         Tag::Section => Strength::Implicit,
+        _ if is_table_of_contents(element) => Strength::Implicit,
         _ => Strength::Explicit,
     }
 }

@@ -6,7 +6,7 @@ ghost use Rattle.std.specs.Prelude.{◌≡◌, true, false, Some, None, codes, [
 ghost use Rattle.rst_text.specs.Names.{identifier};
 ghost use Rattle.rst_tree.specs.declared.key.Key.TheVariants.{Inline, Message, OwnName, Refuri, Serial, TextMessages};
 ghost use Rattle.rst_tree.specs.declared.note.Level.TheVariants.{Info, Warning};
-ghost use Rattle.rst_tree.specs.declared.tag.Tag.TheVariants.{Attribution, BlockQuote, Caption, Classifier, Definition, DefinitionListItem, Field, FieldBody, FieldName, Figure, Footnote, Image, Line, LineBlock, Paragraph, Problematic, Reference, Section, SubstitutionDefinition, SystemMessage, Target, Term, Title};
+ghost use Rattle.rst_tree.specs.declared.tag.Tag.TheVariants.{Attribution, BlockQuote, Caption, Classifier, Definition, DefinitionListItem, Field, FieldBody, FieldName, Figure, Footnote, Image, Line, LineBlock, Paragraph, Problematic, Reference, Section, SubstitutionDefinition, SystemMessage, Target, Term, Title, Topic};
 ghost use Rattle.rst_tree.specs.Walk.{item, walked_node};
 ghost use Rattle.rst_tree_index.specs.Marks.{heeded_next, heeded_out};
 ghost use Rattle.rst_tree_index.specs.Registered.{is_registered};
@@ -187,13 +187,13 @@ pub fn places()
 /// Tree, 'Attribute Reference').
 pub fn written()
     ensures names { IsPrintedIn (walked_node (heeded_next is_registered left_after) (heeded_out is_registered with_given) (given (standing 0 (Some
-        (codes "a")) true ∷ standing 1 (Some (codes "a-1")) false ∷ standing 2 (Some (codes "target-1")) false
+        (codes "a")) false true ∷ standing 1 (Some (codes "a-1")) false false ∷ standing 2 (Some (codes "target-1")) true false
         ∷ []) [] []) (document_element (element Section (says OwnName "a" ∷ []) (paragraph "b" ∷ element Target (says OwnName "a" ∷ []) [] ∷ [])
         ∷ element Target [] [] ∷ [])))
         ("<document>" ∷ "    <section dupnames=\"a\" ids=\"a\">" ∷ "        <paragraph>" ∷ "            b"
         ∷ "        <target ids=\"a-1\" names=\"a\">" ∷ "    <target ids=\"target-1\">" ∷ []) }
     ensures definition { IsPrintedIn (walked_node (heeded_next is_registered left_after) (heeded_out is_registered with_given) (given
-        (standing 0 None false ∷ []) [] []) (document_element (element SubstitutionDefinition (says OwnName "A" ∷ []) [] ∷ [])))
+        (standing 0 None false false ∷ []) [] []) (document_element (element SubstitutionDefinition (says OwnName "A" ∷ []) [] ∷ [])))
         ("<document>" ∷ "    <substitution_definition names=\"A\">" ∷ []) }
     ensures problematics { IsPrintedIn (walked_node (heeded_next is_registered left_after) (heeded_out is_registered with_given) (given [] (1 ∷ 2 ∷ 1
         ∷ []) (record { id = Some 1; problematics = codes "problematic-1" ∷ codes "problematic-2" ∷ [] }
@@ -249,6 +249,34 @@ pub fn registered()
     ensures holder_that_lost { (registration 0 (document_element (element Section (says OwnName "a" ∷ []) [] ∷ element Section (says OwnName "a" ∷ []) []
         ∷ []))).names (codes "a")
         ≡ Some (record { holder = Nobody; strength = Implicit; id = codes "a"; uri = None }) }
+{}
+
+/// The names of tables of contents, which are topics with a number of messages (Directives, 'Table of Contents').
+pub fn tables_of_contents()
+    ensures alone { PrintsRegistered 0 (element Topic (says OwnName "a b" ∷ counts TextMessages 0 ∷ []) [] ∷ [])
+        ("<document>" ∷ "    <topic ids=\"a-b\" names=\"a\\ b\">" ∷ []) }
+    ensures after_a_target { PrintsRegistered 0 (element Target (says OwnName "a" ∷ []) [] ∷ element Topic (says OwnName "a" ∷ counts TextMessages 0 ∷ []) []
+        ∷ element Topic (says OwnName "a" ∷ counts TextMessages 0 ∷ []) [] ∷ [])
+        ("<document>" ∷ "    <target ids=\"a\" names=\"a\">" ∷ "    <topic ids=\"topic-1\">" ∷ "    <topic ids=\"topic-2\">" ∷ []) }
+    ensures after_a_lost_name { PrintsRegistered 0 (element Section (says OwnName "a" ∷ []) [] ∷ element Section (says OwnName "a" ∷ []) (element Title [] []
+        ∷ element Topic (says OwnName "a" ∷ counts TextMessages 0 ∷ []) [] ∷ []) ∷ [])
+        ("<document>" ∷ "    <section dupnames=\"a\" ids=\"a\">" ∷ "    <section dupnames=\"a\" ids=\"a-1\">" ∷ "        <title>"
+        ∷ "        <system_message backrefs=\"a-1\" level=\"1\" line=\"1\" type=\"INFO\">" ∷ "            <paragraph>"
+        ∷ "                Duplicate implicit target name: \"a\"." ∷ "        <topic ids=\"topic-1\">" ∷ []) }
+    ensures before_a_target { PrintsRegistered 0 (element Topic (says OwnName "a" ∷ counts TextMessages 0 ∷ []) [] ∷ element Target (says OwnName "a" ∷ []) [] ∷ [])
+        ("<document>" ∷ "    <topic dupnames=\"a\" ids=\"a\">" ∷ "    <system_message backrefs=\"a-1\" level=\"1\" line=\"1\" type=\"INFO\">"
+        ∷ "        <paragraph>" ∷ "            Duplicate implicit target name: \"a\"." ∷ "    <target ids=\"a-1\" names=\"a\">" ∷ []) }
+    ensures before_a_section { PrintsRegistered 0 (element Topic (says OwnName "a" ∷ counts TextMessages 0 ∷ []) [] ∷ element Section (says OwnName "a" ∷ []) (element Title [] []
+        ∷ []) ∷ [])
+        ("<document>" ∷ "    <topic dupnames=\"a\" ids=\"a\">" ∷ "    <section dupnames=\"a\" ids=\"a-1\">" ∷ "        <title>"
+        ∷ "        <system_message backrefs=\"a-1\" level=\"1\" line=\"1\" type=\"INFO\">" ∷ "            <paragraph>"
+        ∷ "                Duplicate implicit target name: \"a\"." ∷ []) }
+    ensures other_topic { PrintsRegistered 0 (element Target (says OwnName "a" ∷ []) [] ∷ element Topic (says OwnName "a" ∷ []) [] ∷ [])
+        ("<document>" ∷ "    <target dupnames=\"a\" ids=\"a\">" ∷ "    <system_message backrefs=\"a-1\" level=\"2\" line=\"1\" type=\"WARNING\">"
+        ∷ "        <paragraph>" ∷ "            Duplicate explicit target name: \"a\"." ∷ "    <topic dupnames=\"a\" ids=\"a-1\">" ∷ []) }
+    ensures messages_on_the_title { IsPrintedIn (with_name_messages (message_on (Some (text "here") ∷ [])) (document_element (element Topic (counts TextMessages 1 ∷ []) (element Title [] (element Target (counts Inline 1
+        ∷ counts Serial 0 ∷ []) [] ∷ []) ∷ []) ∷ element SystemMessage [] [] ∷ paragraph "b" ∷ [])))
+        ("<document>" ∷ "    <topic>" ∷ "        <title>" ∷ "            <target>" ∷ "        here" ∷ "    <system_message line=\"1\">" ∷ "    <paragraph>" ∷ "        b" ∷ []) }
 {}
 
 /// The ids that registration gives (Document Tree, 'Attribute Reference').

@@ -27,10 +27,15 @@ fn write(alloc: Global, attrs: &mut Attrs, standing: Standing) -> Result<()>
 {
     let name = copied_text(attrs.text(Key::OwnName))?;
     attrs.reserve(if name.is_some() { 3 } else { 2 })?;
-    let Standing { serial, id, lost } = standing;
+    let Standing {
+        serial,
+        id,
+        unnamed,
+        lost,
+    } = standing;
     attrs.set(Key::Serial, Value::Number(serial))?;
     if let Some(name) = name {
-        if !name.as_bytes().is_empty() {
+        if !unnamed && !name.as_bytes().is_empty() {
             let key = if lost { Key::Dupnames } else { Key::Names };
             attrs.set(key, Value::List(Texts::lone(alloc, name)))?;
         }

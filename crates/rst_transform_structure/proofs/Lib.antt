@@ -1,3 +1,4 @@
+pub mod Classing
 pub mod Computing
 pub mod KeptTransitions
 pub mod LastNodes

@@ -1,3 +1,4 @@
+pub mod Classes
 pub mod LastSection
 pub mod Law
 pub mod Passing

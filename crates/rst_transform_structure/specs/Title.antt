@@ -3,7 +3,7 @@ use Rattle.std.specs.Prelude.{ℕ, ◌-◌, List, [], ◌++◌, length, take, sl
 use Rattle.std.specs.List.{list_all}
 use Rattle.rst_tree.specs.declared.attrs.Attr.{Attr}
 use Rattle.rst_tree.specs.declared.attrs.Value.TheVariants.{Text as Says}
-use Rattle.rst_tree.specs.declared.key.Key.TheVariants.{Names as OfNames, Title}
+use Rattle.rst_tree.specs.declared.key.Key.TheVariants.{Classes, Names as OfNames, Title}
 use Rattle.rst_tree.specs.declared.node.Node.{Node}
 use Rattle.rst_tree.specs.declared.node.Node.TheVariants.{Element, Text}
 use Rattle.rst_tree.specs.declared.tag.Tag.TheVariants.{Subtitle, Section as IsSection}
@@ -14,7 +14,7 @@ use Rattle.rst_tree.specs.Tree.{text_in}
 use Rattle.rst_transform_structure.specs.declared.title.Section.{Section}
 use Rattle.rst_transform_structure.specs.Passing.{passed, paired_with_number}
 use Rattle.rst_transform_work.specs.Known.{Known}
-use Rattle.rst_transform_work.specs.Lists.{listed_texts, with_names}
+use Rattle.rst_transform_work.specs.Lists.{listed_texts, with_list_of, with_names}
 use Rattle.rst_transform_work.specs.declared.document.Document.{Document}
 use Rattle.rst_transform_work.specs.Reading.{may_precede}
 
@@ -51,20 +51,24 @@ abbrev pub subtitle : List Attr → Node → Node
 subtitle a (Element t b c l) = Element Subtitle a c l
 subtitle a (Text t) = Text t
 
--- the nodes after a document's title: if they have a lone section, its title becomes the subtitle, with the section's ids and names
+-- the attributes of an element that takes a section's title: the section's ids, names, lost names and classes after its own
+abbrev pub with_section : List Attr → List Attr → List Attr
+with_section from attrs = with_list_of Classes from (with_names from attrs)
+
+-- the nodes after a document's title: if they have a lone section, its title becomes the subtitle, with the section's ids, names and classes
 abbrev pub subtitled_by : Option Section → Forest → Forest
 subtitled_by None nodes = nodes
-subtitled_by (Some s) nodes = join_node (subtitle (with_names s.attrs []) s.title) s.body
+subtitled_by (Some s) nodes = join_node (subtitle (with_section s.attrs []) s.title) s.body
 
 -- the nodes of a document: if they have a lone section, its title comes first
 abbrev pub titled_by : Option Section → Forest → Forest
 titled_by None nodes = nodes
 titled_by (Some s) nodes = join_node s.title (subtitled_by (lone_section s.body) s.body)
 
--- the attributes of a document: if it has a lone section, the text of its title, and the section's ids and names after its own
+-- the attributes of a document: if it has a lone section, the text of its title, and the section's ids, names and classes after its own
 abbrev pub title_attrs : Option Section → List Attr → List Attr
 title_attrs None a = a
-title_attrs (Some s) a = with_names s.attrs (with_attr Title (Says (text_in s.title)) a)
+title_attrs (Some s) a = with_section s.attrs (with_attr Title (Says (text_in s.title)) a)
 
 -- the document with its title and its subtitle, if it gets them
 abbrev pub titled : Document → Document

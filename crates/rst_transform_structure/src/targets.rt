@@ -1,10 +1,9 @@
 //! Internal targets.
-ghost use Rattle.std.specs.Prelude.{◌≡◌, ◌++◌, [], drop, reverse, IfOk};
-ghost use Rattle.rst_tree.specs.Walk.{item};
-ghost use Rattle.rst_transform_work.specs.States.{elements_of};
+ghost use Rattle.std.specs.Prelude.{◌≡◌, ◌∷◌, ◌++◌, [], drop, false, is_some, reverse, IfOk};
+ghost use Rattle.rst_tree.specs.declared.tag.Tag.TheVariants.{Document as IsDocument};
 ghost use Rattle.rst_transform_work.specs.Known.{Makes};
 ghost use Rattle.rst_transform_structure.specs.Passing.{paired_with_number, Passes};
-ghost use Rattle.rst_transform_structure.specs.Targets.{with_ids_and_names, got_by, handed, handed_by, hands_on, reached, referring, takers, takes_ids, with_targets, TakesTaker};
+ghost use Rattle.rst_transform_structure.specs.Targets.{with_ids_and_names, first_takes, got_by, handed, handed_by, is_first_passed, is_passed, passed_or_taker, reached, referring, taker, takers, with_targets, TakesTaker};
 
 use rst_transform_names::{Holder, Names};
 use rst_transform_work::{Context, Document, append, take_list};
@@ -30,75 +29,114 @@ use std::mem;
 ///     <target refid="b">
 ///     <paragraph ids="b a" names="b a">
 ///
-/// A target that no element follows, or one that takes no ids, stays as it is.
-pub fn targets(document: Document, context: &mut Context) -> Result<Document>
-    ensures { IfOk result (Makes (with_targets document) context.old context.new) }
+/// A target that no element follows, or one that takes no ids, stays as it is. Where the part `unmarked` of the wider profile holds, the element that
+/// follows is looked for past messages.
+pub fn targets(document: Document, unmarked: bool, context: &mut Context) -> Result<Document>
+    ensures { IfOk result (Makes (with_targets unmarked document) context.old context.new) }
 {
-    let takers = takers(context.alloc, &document)?;
-    let mut walking = Walking::of(context.alloc, takers);
+    let takers = takers(context.alloc, &document, unmarked)?;
+    let mut walking = Walking::of(context.alloc, takers, unmarked);
     let node = walk(document.into_node(), &mut walking)?;
     pass(walking.got, &mut context.names);
     Ok(Document::of(node))
 }
 
-/// Whether an element of a kind takes the ids and names of a target before it.
-fn takes_ids(tag: Tag) -> bool
-    ensures { result ≡ takes_ids tag }
-{
-    !matches!(
-        tag,
-        Tag::Comment | Tag::SubstitutionDefinition | Tag::SystemMessage | Tag::Transition
-    )
+/// What an element is to a target before it.
+#[derive(Clone, Copy)]
+enum Taking {
+    /// It takes the ids and names of the target.
+    Takes,
+    /// The target keeps them.
+    Refuses,
+    /// It is passed over with all that is in it: what comes after it decides.
+    Passed,
 }
 
-/// For the document and each element in it, in order, whether it takes the ids and names of a target before it.
-fn takers(alloc: Global, document: &Document) -> Result<Vec<bool>>
-    ensures { IfOk result (λ list. list.items ≡ takers (elements_of document.now)) }
+/// What an element of a kind is to a target before it.
+fn taker(unmarked: bool, tag: Tag) -> Taking
+    ensures { result ≡ taker unmarked tag }
+{
+    match tag {
+        Tag::Comment | Tag::SubstitutionDefinition => Taking::Refuses,
+        Tag::SystemMessage if unmarked => Taking::Passed,
+        Tag::Footnote | Tag::Citation if unmarked => Taking::Refuses,
+        Tag::SystemMessage | Tag::Transition if !unmarked => Taking::Refuses,
+        _ => Taking::Takes,
+    }
+}
+
+/// Whether an element is passed over.
+fn is_passed(taker: Taking) -> bool
+    ensures { result ≡ is_passed taker }
+{
+    matches!(taker, Taking::Passed)
+}
+
+/// For the document and each element in it, in order, what it is to a target before it.
+fn takers(alloc: Global, document: &Document, unmarked: bool) -> Result<Vec<Taking>>
+    ensures { IfOk result (λ list. list.items ≡ taker unmarked IsDocument ∷ takers unmarked false document.now.children) }
 {
     let mut takers = TakerReader {
+        unmarked,
         list: Vec::new(alloc),
     };
-    takers.list.push(takes_ids(Tag::Document))?;
+    takers.list.push(taker(unmarked, Tag::Document))?;
     read_elements(alloc, &document.children, None, &mut takers)?;
     Ok(takers.list)
 }
 
-/// For each element that was read whether it takes ids.
+/// For each element that was read what it is to a target before it.
 #[derive(Drop)]
 struct TakerReader {
-    list: Vec<bool>,
+    unmarked: bool,
+    list: Vec<Taking>,
 }
 
 impl Model for TakerReader {
-    ghost use Rattle.std.specs.Prelude.{Bool, List};
+    ghost use Rattle.rst_transform_structure.specs.Targets.{read_takers, ReadTakers};
 
-    ghost Value = { List Bool };
+    ghost Value = { ReadTakers };
 
-    ghost view = { λ t. t.list.items };
+    ghost view = { λ t. read_takers t.unmarked t.list.items };
 }
 
 impl<'a> Reader<'a> for TakerReader {
     ghost takes = { TakesTaker };
 
+    // The inside of an element that is passed over is marked by `Some` level.
     fn read(
         &mut self,
         _alloc: Global,
         element: &'a Node,
         level: Option<usize>,
     ) -> Result<Option<usize>> {
-        if let Node::Element { tag, .. } = element {
-            self.list.push(takes_ids(*tag))?;
-        }
-        Ok(level)
+        let Node::Element { tag, .. } = element else {
+            return Ok(level);
+        };
+        let taker = passed_or_taker(level.is_some(), self.unmarked, *tag);
+        self.list.push(taker)?;
+        Ok(is_passed(taker).then_some(0))
     }
+}
+
+/// The same, of an element that may be in one that is passed over.
+fn passed_or_taker(inside: bool, unmarked: bool, tag: Tag) -> Taking
+    ensures { result ≡ passed_or_taker inside unmarked tag }
+{
+    if inside {
+        return Taking::Passed;
+    }
+    taker(unmarked, tag)
 }
 
 /// What a walk over the elements of a document knows when it comes to one of them.
 #[derive(Drop)]
 struct Walking {
     alloc: Global,
-    /// For this element and each one after it whether it takes ids.
-    takers: VecDeque<bool>,
+    /// Whether the part `unmarked` holds.
+    unmarked: bool,
+    /// For this element and each one after it what it is to a target before it.
+    takers: VecDeque<Taking>,
     /// The ids that it gets, the last first: so each target adds its own at the end.
     ids: Vec<Text>,
     /// The names that it gets, likewise.
@@ -113,16 +151,17 @@ impl Model for Walking {
 
     ghost Value = { Reached };
 
-    ghost view = { λ w. reached w.takers.items (handed (reverse w.ids.items) (reverse w.names.items)) w.got.items };
+    ghost view = { λ w. reached w.unmarked w.takers.items (handed (reverse w.ids.items) (reverse w.names.items)) w.got.items };
 }
 
 impl Walking {
     /// Before the first element.
-    fn of(alloc: Global, takers: Vec<bool>) -> Walking
-        ensures { result ≡ reached takers.items (handed [] []) [] }
+    fn of(alloc: Global, takers: Vec<Taking>, unmarked: bool) -> Walking
+        ensures { result ≡ reached unmarked takers.items (handed [] []) [] }
     {
         Walking {
             alloc,
+            unmarked,
             takers: VecDeque::from_vec(takers),
             ids: Vec::new(alloc),
             names: Vec::new(alloc),
@@ -130,25 +169,43 @@ impl Walking {
         }
     }
 
-    /// Whether the element is a target that hands on its ids.
-    fn is_turn(&mut self, tag: Tag, attrs: &Attrs) -> bool
-        ensures turn { result ≡ hands_on self.old (item tag attrs.now 0) }
+    /// Goes on to the elements after this one, and returns whether this is passed over.
+    fn passes(&mut self) -> bool
+        ensures passed { result ≡ is_first_passed self.old.takers }
         ensures left { self.new ≡ record self.old { takers = drop 1 self.old.takers } }
     {
-        let next_takes = matches!(self.takers.get(1), Some(true));
-        self.takers.pop_front();
-        is_internal(tag, attrs) && next_takes
+        match self.takers.pop_front() {
+            Some(taker) => is_passed(taker),
+            None => false,
+        }
+    }
+
+    /// Whether the next element that isn't passed over takes ids and names.
+    fn next_takes(&self) -> bool
+        ensures { result ≡ first_takes self.now.takers }
+    {
+        let mut place = 0;
+        while let Some(taker) = self.takers.get(place) {
+            match taker {
+                Taking::Takes => return true,
+                Taking::Refuses => return false,
+                Taking::Passed => place += 1,
+            }
+        }
+        false
     }
 
     /// Takes the ids and names from a target, which refers to its first id from now on.
     #[tactic(auto, using(crate::proofs::Retargeting::reversed_after, crate::proofs::Retargeting::listed_still))]
     fn hand_on(&mut self, attrs: &mut Attrs) -> Result<()>
-        ensures attrs { IfOk result (λ _. attrs.new ≡ referring attrs.old) }
+        ensures attrs { IfOk result (λ _. attrs.new ≡ referring self.old.unmarked attrs.old) }
         ensures handed { IfOk result (λ _. self.new ≡ record self.old { handed = handed_by attrs.old self.old.handed }) }
     {
         let ids = take_list(self.alloc, attrs, Key::Ids);
         let names = take_list(self.alloc, attrs, Key::Names);
-        attrs.remove(Key::Dupnames);
+        if !self.unmarked {
+            attrs.remove(Key::Dupnames);
+        }
         add_backwards(&mut self.ids, ids.as_slice())?;
         add_backwards(&mut self.names, names.as_slice())?;
         match ids.as_slice().first() {
@@ -160,7 +217,7 @@ impl Walking {
     /// Gives the ids and names that were handed on to an element.
     fn hand_over(&mut self, attrs: &mut Attrs) -> Result<()>
         ensures attrs { IfOk result (λ _. attrs.new ≡ with_ids_and_names self.old.handed attrs.old) }
-        ensures handed { IfOk result (λ _. self.new ≡ reached self.old.takers (handed [] []) (self.old.got ++ got_by attrs.old self.old.handed.names)) }
+        ensures handed { IfOk result (λ _. self.new ≡ reached self.old.unmarked self.old.takers (handed [] []) (self.old.got ++ got_by attrs.old self.old.handed.names)) }
     {
         if self.ids.is_empty() && self.names.is_empty() {
             return Ok(());
@@ -184,7 +241,10 @@ impl Visitor for Walking {
     ghost out = { changed_item };
 
     fn visit(&mut self, tag: &mut Tag, attrs: &mut Attrs, _line: &mut usize) -> Result<()> {
-        if self.is_turn(*tag, attrs) {
+        if self.passes() {
+            return Ok(());
+        }
+        if is_internal(*tag, attrs) && self.next_takes() {
             return self.hand_on(attrs);
         }
         self.hand_over(attrs)

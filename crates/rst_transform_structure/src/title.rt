@@ -3,13 +3,13 @@ ghost use Rattle.std.specs.Prelude.{◌≡◌, None, IfOk};
 ghost use Rattle.rst_tree.specs.declared.key.Key.TheVariants.{Names as OfNames};
 ghost use Rattle.rst_tree.specs.Nodes.{join_node};
 ghost use Rattle.rst_transform_work.specs.Known.{Makes};
-ghost use Rattle.rst_transform_work.specs.Lists.{with_names, listed_texts};
+ghost use Rattle.rst_transform_work.specs.Lists.{listed_texts};
 ghost use Rattle.rst_transform_work.specs.Made.{IsMadeOf};
-ghost use Rattle.rst_transform_structure.specs.Title.{lone_section, section_in, subtitle, subtitle_names, subtitled_by, title_attrs, title_names, titled_by, with_title};
+ghost use Rattle.rst_transform_structure.specs.Title.{lone_section, section_in, subtitle, subtitle_names, subtitled_by, title_attrs, title_names, titled_by, with_section, with_title};
 ghost use Rattle.rst_transform_structure.specs.Passing.{paired_with_number, Passes};
 
 use rst_transform_names::{Holder, Names};
-use rst_transform_work::{Context, Document, append_names, element, may_precede};
+use rst_transform_work::{Context, Document, append, append_names, element, may_precede};
 use rst_tree::{Attrs, Children, Key, Node, Result, Tag, Text, Value, ValueRef};
 use std::alloc::Global;
 
@@ -31,7 +31,7 @@ use std::alloc::Global;
 ///         <comment>
 ///         <paragraph>
 ///
-/// Comments, targets, substitution definitions and messages may come before the section.
+/// Comments, targets, substitution definitions and messages may come before the section. Classes of the section become the document's, too.
 pub fn title(mut document: Document, context: &mut Context) -> Result<Document>
     ensures { IfOk result (Makes (with_title document) context.old context.new) }
 {
@@ -148,12 +148,15 @@ fn lone_section(nodes: Children) -> Result<std::result::Result<Section, Children
     }
 }
 
-/// Adds a section's ids, names and lost names to those of the element that takes its title.
+/// Adds a section's ids, names, lost names and classes to those of the element that takes its title.
 fn take_names(alloc: Global, attrs: &mut Attrs, section: &Attrs, names: &mut Names) -> Result<()>
-    ensures attrs { IfOk result (λ _. attrs.new ≡ with_names section.now attrs.old) }
+    ensures attrs { IfOk result (λ _. attrs.new ≡ with_section section.now attrs.old) }
     ensures names { IfOk result (λ _. Passes (paired_with_number None (listed_texts OfNames section.now)) names.old names.new) }
 {
     append_names(alloc, attrs, section)?;
+    if let Some(ValueRef::List(classes)) = section.get(Key::Classes) {
+        append(alloc, attrs, Key::Classes, classes)?;
+    }
     if let Some(ValueRef::List(own_names)) = section.get(Key::Names) {
         move_names(own_names, names);
     }

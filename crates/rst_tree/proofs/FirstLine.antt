@@ -2,7 +2,7 @@
 use Rattle.std.proofs.Common.{◌≡◌, ℕ, ◌<◌, ◌≤◌, List, [], ◌∷◌, get_or, length, zero, suc, sym, ◌∙◌, arith, true, false}
 use Rattle.std.proofs.lemmas.Bool.{cond-true, cond-false}
 use Rattle.std.proofs.lemmas.Bool.Decides.{nat_tests}
-use Rattle.std.specs.Prelude.{◌==◌}
+use Rattle.std.specs.Prelude.{◌==◌, ◌+◌, if◌then◌else◌}
 use Rattle.rst_text.specs.Runs.{IsRun}
 use Rattle.rst_tree.specs.Print.{is_of_line, line_len}
 
@@ -23,3 +23,8 @@ first_line (b ∷ bs) (suc k) within before stops =
 -- so the first line ends where a run of such bytes does
 pub line_len_run : (t : List ℕ) (k : ℕ) → IsRun is_of_line t 0 k → k ≡ line_len t
 line_len_run t k run = sym (first_line t k run.within (λ i less. run.pass i (omega arith) less) run.stops)
+
+-- and it is within the text
+pub line_len_within : (t : List ℕ) → line_len t ≤ length t
+line_len_within [] = omega arith
+line_len_within (b ∷ bs) = elim (b == 10) as (λ lf. (if lf then 0 else line_len bs + 1) ≤ length (b ∷ bs)) [ true ↦ omega arith | false ↦ omega (arith, line_len_within bs) ]

@@ -2,12 +2,12 @@
 use Rattle.std.proofs.Common.{◌≡◌, ◌<◌, ℕ, nat_lt, zero, suc, Bool, true, List, [], ◌∷◌, refl, ◌∙◌, ap, arith}
 use Rattle.std.proofs.lemmas.Bool.{agree_below, agree_below_at}
 use Rattle.rst_tree.specs.declared.key.Key.{Key}
-use Rattle.rst_tree.specs.declared.key.Key.TheVariants.{Align, Alt, Anonymous, Auto, Backrefs, Bullet, Classes, Cols, Colwidth, Delimiter, Dupnames, Enumtype, Format, Height, Ids, Inline, Kind, Level, Line, Mark, Message, Morecols, Morerows, Name, Names, OwnName, Prefix, Rawsource, Refid, Refname, Refuri, Scale, Serial, Source, Start, Suffix, TextMessages, Title, Type_, Uri, Width, XmlSpace}
+use Rattle.rst_tree.specs.declared.key.Key.TheVariants.{Align, Alt, Anonymous, Auto, Backlinks, Backrefs, Bullet, Classes, Cols, Colwidth, Delimiter, Depth, Dupnames, Enumtype, Format, Height, Ids, Inline, Kind, Level, Line, Local, Mark, Message, Morecols, Morerows, Name, Names, OwnName, Prefix, Rawsource, Refid, Refname, Refuri, Scale, Serial, Source, Start, Stub, Suffix, TextMessages, Title, Type_, Uri, Width, XmlSpace}
 use Rattle.rst_tree.specs.KeyNames.{key_name, key_code}
 use Rattle.rst_tree.specs.Law.{is_before, KeysAreInOrder}
 
 abbrev keys : List Key
-keys = Align ∷ Alt ∷ Anonymous ∷ Auto ∷ Backrefs ∷ Bullet ∷ Classes ∷ Cols ∷ Colwidth ∷ Delimiter ∷ Dupnames ∷ Enumtype ∷ Format ∷ Height ∷ Ids ∷ Inline ∷ Kind ∷ Level ∷ Line ∷ Mark ∷ Message ∷ Morecols ∷ Morerows ∷ Name ∷ Names ∷ OwnName ∷ Prefix ∷ Rawsource ∷ Refid ∷ Refname ∷ Refuri ∷ Scale ∷ Serial ∷ Source ∷ Start ∷ Suffix ∷ TextMessages ∷ Title ∷ Type_ ∷ Uri ∷ Width ∷ XmlSpace ∷ []
+keys = Align ∷ Alt ∷ Anonymous ∷ Auto ∷ Backlinks ∷ Backrefs ∷ Bullet ∷ Classes ∷ Cols ∷ Colwidth ∷ Delimiter ∷ Depth ∷ Dupnames ∷ Enumtype ∷ Format ∷ Height ∷ Ids ∷ Inline ∷ Kind ∷ Level ∷ Line ∷ Local ∷ Mark ∷ Message ∷ Morecols ∷ Morerows ∷ Name ∷ Names ∷ OwnName ∷ Prefix ∷ Rawsource ∷ Refid ∷ Refname ∷ Refuri ∷ Scale ∷ Serial ∷ Source ∷ Start ∷ Stub ∷ Suffix ∷ TextMessages ∷ Title ∷ Type_ ∷ Uri ∷ Width ∷ XmlSpace ∷ []
 
 -- the key at a place
 abbrev key_at : ℕ → List Key → Key → Key
@@ -20,7 +20,7 @@ found : (k : Key) → key_at (key_code k) keys Align ≡ k
 found Align = refl
 found _ = refl
 
-below_all : (k : Key) → key_code k < 42
+below_all : (k : Key) → key_code k < 46
 below_all Align = omega arith
 below_all _ = omega arith
 
@@ -28,10 +28,10 @@ below_all _ = omega arith
 abbrev is_before_at : Key → ℕ → Bool
 is_before_at k n = is_before (key_name k) (key_name (key_at n keys Align))
 
-row : (k : Key) → agree_below (nat_lt (key_code k)) (is_before_at k) 42 ≡ true
+row : (k : Key) → agree_below (nat_lt (key_code k)) (is_before_at k) 46 ≡ true
 unfolding key_name
 row Align = refl
 row _ = refl
 
 pub keys_in_order : KeysAreInOrder
-keys_in_order k j = agree_below_at (nat_lt (key_code k)) (is_before_at k) 42 (key_code j) (row k) (below_all j) ∙ ap (λ i. is_before (key_name k) (key_name i)) (found j)
+keys_in_order k j = agree_below_at (nat_lt (key_code k)) (is_before_at k) 46 (key_code j) (row k) (below_all j) ∙ ap (λ i. is_before (key_name k) (key_name i)) (found j)

@@ -9,6 +9,7 @@ pub mod EachNode
 pub mod FirstLine
 pub mod Fitting
 pub mod Sending
+pub mod Overlaid
 pub mod Pages
 pub mod EachLine
 pub mod KeyOrder

@@ -1,7 +1,7 @@
 -- The names of elements (Document Tree, 'Element Reference').
 use Rattle.std.specs.Prelude.{ℕ, ◌==◌, List, map, codes, if◌then◌else◌}
 use Rattle.rst_tree.specs.declared.tag.Tag.{Tag}
-use Rattle.rst_tree.specs.declared.tag.Tag.TheVariants.{Abbreviation, Acronym, Address, Admonition, Attention, Attribution, Author, Authors, BlockQuote, BulletList, Caption, Caution, Citation, CitationReference, Classifier, Colspec, Comment, Compound, Contact, Container, Copyright, Danger, Date, Definition, DefinitionList, DefinitionListItem, Description, Docinfo, DoctestBlock, Document, Emphasis, Entry, EnumeratedList, Error, Field, FieldBody, FieldList, FieldName, Figure, Footnote, FootnoteReference, Handed, Hint, Image, Important, Label, Legend, Line, LineBlock, ListItem, Literal, LiteralBlock, Math, MathBlock, Note, Option, OptionArgument, OptionGroup, OptionList, OptionListItem, OptionString, Organization, Paragraph, Problematic, Raw, Reference, Revision, Row, Rubric, Section, Sidebar, Status, Strong, Subscript, SubstitutionDefinition, SubstitutionReference, Subtitle, Superscript, SystemMessage, Table, Target, Tbody, Term, Tgroup, Thead, Tip, Title, TitleReference, Topic, Transition, Version, Warning}
+use Rattle.rst_tree.specs.declared.tag.Tag.TheVariants.{Abbreviation, Acronym, Address, Admonition, Attention, Attribution, Author, Authors, BlockQuote, BulletList, Caption, Caution, Citation, CitationReference, Class, Classifier, Colspec, Comment, Compound, Contact, Container, Contents, Copyright, Danger, Date, Definition, DefinitionList, DefinitionListItem, Description, Docinfo, DoctestBlock, Document, Emphasis, Entry, EnumeratedList, Error, Field, FieldBody, FieldList, FieldName, Figure, Footnote, FootnoteReference, Handed, Hint, Image, Important, Label, Legend, Line, LineBlock, ListItem, Literal, LiteralBlock, Math, MathBlock, Note, Option, OptionArgument, OptionGroup, OptionList, OptionListItem, OptionString, Organization, Paragraph, Problematic, Raw, Reference, Revision, Row, Rubric, Section, Sidebar, Status, Strong, Subscript, SubstitutionDefinition, SubstitutionReference, Subtitle, Superscript, SystemMessage, Table, Target, Tbody, Term, Tgroup, Thead, Tip, Title, TitleReference, Topic, Transition, Version, Warning}
 
 -- the name that is printed
 unfoldable pub tag_name : Tag → List ℕ
@@ -19,12 +19,14 @@ tag_name Caption = codes "caption"
 tag_name Caution = codes "caution"
 tag_name Citation = codes "citation"
 tag_name CitationReference = codes "citation_reference"
+tag_name Class = codes "class"
 tag_name Classifier = codes "classifier"
 tag_name Colspec = codes "colspec"
 tag_name Comment = codes "comment"
 tag_name Compound = codes "compound"
 tag_name Contact = codes "contact"
 tag_name Container = codes "container"
+tag_name Contents = codes "contents"
 tag_name Copyright = codes "copyright"
 tag_name Danger = codes "danger"
 tag_name Date = codes "date"

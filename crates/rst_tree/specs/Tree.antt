@@ -30,7 +30,7 @@ is_sound_node (Text t) = is_lines t
 
 -- the most that nodes nest
 abbrev pub most_levels : ℕ
-most_levels = 1350
+most_levels = 1550
 
 -- the nodes nest no deeper than a number of levels, and the texts hold no line end but LF
 abbrev pub is_tree_within : Node → ℕ → Bool

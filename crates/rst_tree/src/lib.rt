@@ -12,6 +12,7 @@ mod note;
 mod output;
 mod page;
 mod phrase;
+mod placing;
 mod printing;
 mod reading;
 mod rewriting;

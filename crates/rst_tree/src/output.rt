@@ -1,7 +1,7 @@
 //! The texts of nodes and messages, piece by piece.
-ghost use Rattle.std.specs.Prelude.{◌≡◌, ◌+◌, ◌*◌, ◌-◌, ◌<◌, ◌++◌, false, replicate};
+ghost use Rattle.std.specs.Prelude.{◌≡◌, ℕ, ◌+◌, ◌*◌, ◌-◌, ◌<◌, ◌≤◌, ◌++◌, [], List, Option, false, length, take, replicate, IsTrue};
 ghost use Rattle.rst_tree.specs.Sends.{Sends};
-ghost use Rattle.rst_tree.specs.Print.{needs_backslash, escaped, spaced, value_text, attribute_text, printed_line, text_lines, printed_node};
+ghost use Rattle.rst_tree.specs.Print.{needs_backslash, escaped, spaced, value_text, attribute_text, start_tag, line_len, printed_line, text_lines, printed_node};
 ghost use Rattle.rst_tree.specs.Attributes.{attr, attrs_before, following};
 ghost use Rattle.rst_tree.specs.Entries.{as_value};
 ghost use Rattle.rst_tree.specs.KeyNames.{is_hidden};
@@ -18,11 +18,11 @@ use crate::key::Key;
 use crate::node::Node;
 use crate::note::{Level, Note};
 use crate::page::{FEW, Page, SPACES};
+use crate::placing::{LANES, OfLine};
 use crate::tag::Tag;
 use crate::text::Text;
 use itoa::Buffer;
-use rst_text::{ByteTest, Counted, WriteCall, run_end};
-use std::simd::prelude::*;
+use rst_text::{Counted, WriteCall, run_end};
 
 /// Writes a number in decimal digits.
 fn put_number<W: WriteCall, const N: usize>(out: &mut Counted<W>, page: &mut Page<N>, number: u64)
@@ -221,7 +221,7 @@ fn put_indent<W: WriteCall, const N: usize>(out: &mut Counted<W>, page: &mut Pag
     page.put(out, &SPACES[..4 * left]);
 }
 
-/// Writes the indentation of a level and two texts after it.
+/// Writes the indentation of a level and three texts after it.
 #[inline(always)]
 fn put_indented<W: WriteCall, const N: usize>(
     out: &mut Counted<W>,
@@ -229,36 +229,76 @@ fn put_indented<W: WriteCall, const N: usize>(
     level: usize,
     first: &[u8],
     second: &[u8],
+    third: &[u8],
 )
-    ensures { Sends W.call_takes W.contents (replicate (4 * level) 32 ++ first.now ++ second.now) out.old page.old out.new page.new }
+    requires { length first.now + length third.now ≤ 64 }
+    ensures { Sends W.call_takes W.contents (replicate (4 * level) 32 ++ first.now ++ second.now ++ third.now) out.old page.old out.new page.new }
 {
-    // Mostly there is room for all, so one test stands for three.
-    let most = first.len().saturating_add(SPACES.len() + second.len());
+    // Mostly there is room for all, so one test replaces four.
+    let most = second
+        .len()
+        .saturating_add(SPACES.len() + first.len() + third.len());
     if level <= FEW && page.has_room(most) && !out.failed() {
-        page.gather_indented(level, first, second);
+        page.gather_indented(level, first, second, third);
         return;
     }
+    put_one_by_one(out, page, level, first, second, third);
+}
+
+/// The same, whether or not there is room for all.
+#[cold]
+#[inline(never)]
+fn put_one_by_one<W: WriteCall, const N: usize>(
+    out: &mut Counted<W>,
+    page: &mut Page<N>,
+    level: usize,
+    first: &[u8],
+    second: &[u8],
+    third: &[u8],
+)
+    ensures { Sends W.call_takes W.contents (replicate (4 * level) 32 ++ first.now ++ second.now ++ third.now) out.old page.old out.new page.new }
+{
     put_indent(out, page, level);
     page.put(out, first);
     page.put(out, second);
+    page.put(out, third);
 }
 
-/// Whether a byte ends no line.
-struct OfLine;
-
-impl ByteTest for OfLine {
-    ghost use Rattle.rst_tree.specs.Print.{is_of_line};
-
-    ghost passes = { is_of_line };
-
-    fn passes(byte: u8) -> bool {
-        byte != b'\n'
+/// Writes the first line of a text after the indentation of a level, and gives how many bytes it has without its end, which the last
+/// line may lack.
+#[inline(always)]
+fn put_line<W: WriteCall, const N: usize>(
+    out: &mut Counted<W>,
+    page: &mut Page<N>,
+    level: usize,
+    text: &[u8],
+) -> usize
+    ensures line { result ≡ line_len text.now }
+    ensures within { result ≤ length text.now }
+    ensures sent { Sends W.call_takes W.contents (printed_line (level, take result text.now)) out.old page.old out.new page.new }
+{
+    // Mostly there is room for the whole text, whose line then needs no search before it is copied.
+    let most = text.len().saturating_add(SPACES.len() + LANES + 1);
+    if level <= FEW && page.has_room(most) && !out.failed() {
+        return page.gather_line(level, text);
     }
+    put_found_line(out, page, level, text)
+}
 
-    #[inline(always)]
-    fn failing(bytes: u8x16) -> u64 {
-        bytes.simd_eq(u8x16::splat(b'\n')).to_bitmask()
-    }
+/// The same, whether or not there is room for the whole text.
+#[inline(never)]
+fn put_found_line<W: WriteCall, const N: usize>(
+    out: &mut Counted<W>,
+    page: &mut Page<N>,
+    level: usize,
+    text: &[u8],
+) -> usize
+    ensures line { result ≡ line_len text.now }
+    ensures sent { Sends W.call_takes W.contents (printed_line (level, take result text.now)) out.old page.old out.new page.new }
+{
+    let end = run_end::<OfLine>(text, 0);
+    put_indented(out, page, level, b"", &text[..end], b"\n");
+    end
 }
 
 /// Writes the lines of a text, each after its indentation. The last may have no LF.
@@ -272,11 +312,60 @@ fn put_text<W: WriteCall, const N: usize>(
 {
     let mut rest = text;
     while !rest.is_empty() {
-        let end = run_end::<OfLine>(rest, 0);
-        put_indented(out, page, level, &rest[..end], b"\n");
+        let end = put_line(out, page, level, rest);
         let following = &rest[end..];
         rest = &following[following.len().min(1)..];
     }
+}
+
+/// Whether an element is printed without attributes.
+#[inline(always)]
+fn is_bare(tag: Tag, attrs: &Attrs) -> bool
+    ensures { IsTrue result → (source : Option (List ℕ)) (line : ℕ) → printed_attrs source tag attrs.now line ≡ [] }
+{
+    match tag {
+        Tag::Document | Tag::SystemMessage => false,
+        _ => attrs.as_slice().is_empty(),
+    }
+}
+
+/// Writes the first line of an element, with the attributes that it is printed with.
+#[inline(always)]
+fn put_tag<W: WriteCall, const N: usize>(
+    out: &mut Counted<W>,
+    page: &mut Page<N>,
+    level: usize,
+    tag: Tag,
+    attrs: &Attrs,
+    line: usize,
+    source: Option<&str>,
+)
+    ensures { Sends W.call_takes W.contents (printed_line (level, start_tag tag (printed_attrs (given_source source.entry) tag attrs.now line))) out.old page.old out.new page.new }
+{
+    // Most elements have none.
+    if is_bare(tag, attrs) {
+        put_indented(out, page, level, b"<", tag.name().as_bytes(), b">\n");
+        return;
+    }
+    put_tag_with_attrs(out, page, level, tag, attrs, line, source);
+}
+
+/// The same, whether or not there are any.
+#[inline(never)]
+fn put_tag_with_attrs<W: WriteCall, const N: usize>(
+    out: &mut Counted<W>,
+    page: &mut Page<N>,
+    level: usize,
+    tag: Tag,
+    attrs: &Attrs,
+    line: usize,
+    source: Option<&str>,
+)
+    ensures { Sends W.call_takes W.contents (printed_line (level, start_tag tag (printed_attrs (given_source source.entry) tag attrs.now line))) out.old page.old out.new page.new }
+{
+    put_indented(out, page, level, b"<", tag.name().as_bytes(), b"");
+    put_printed_attrs(out, page, tag, attrs, line, source);
+    page.put(out, b">\n");
 }
 
 /// Writes a node at a level: its first line, and the nodes in it one level deeper, each with the attributes that it is printed with.
@@ -296,9 +385,7 @@ pub fn put_node<W: WriteCall, const N: usize>(
             children,
             line,
         } => {
-            put_indented(out, page, level, b"<", tag.name().as_bytes());
-            put_printed_attrs(out, page, *tag, attrs, *line, source);
-            page.put(out, b">\n");
+            put_tag(out, page, level, *tag, attrs, *line, source);
             let inner = level.saturating_add(1);
             for child in children.as_slice() {
                 // Most nodes are texts, which need no call.

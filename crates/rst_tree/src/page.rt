@@ -1,8 +1,9 @@
 //! What is written piece by piece to a writer that may fail, gathered in a page: after a failure nothing more is written.
-ghost use Rattle.std.specs.Prelude.{◌≡◌, ◌++◌, ◌+◌, ◌*◌, ◌≤◌, [], false, length, replicate, IsTrue};
+ghost use Rattle.std.specs.Prelude.{◌≡◌, ◌++◌, ◌+◌, ◌*◌, ◌≤◌, [], false, length, replicate, take, IsTrue};
 ghost use Rattle.rst_text.specs.Counted.{has_failed};
 
 use crate::fault::PrintFault;
+use crate::placing::{place, place_line};
 use rst_text::{Counted, WriteCall};
 
 /// The indentation of this many levels is written at once.
@@ -25,6 +26,7 @@ pub struct Page<const N: usize> {
 impl<const N: usize> Page<N> {
     ghost use Rattle.rst_tree.specs.Sends.{page_bytes, IsTaken, Sends, Turns};
     ghost use Rattle.rst_tree.specs.Faults.{IsEnd};
+    ghost use Rattle.rst_tree.specs.Print.{line_len, printed_line};
 
     /// An empty page of a text of which nothing was written.
     pub fn new() -> Page<N>
@@ -61,10 +63,8 @@ impl<const N: usize> Page<N> {
         ensures len { self.new.len ≡ self.old.len + length bytes.now }
         ensures taken { self.new.taken ≡ self.old.taken }
     {
-        let end = self.len + bytes.len();
-        let all = &mut self.bytes[..];
-        all[self.len..end].copy_from_slice(bytes);
-        self.len = end;
+        place(&mut self.bytes[..], self.len, bytes);
+        self.len += bytes.len();
     }
 
     /// Whether there is room for this many bytes after what the page holds.
@@ -75,17 +75,41 @@ impl<const N: usize> Page<N> {
         bytes <= N - self.len
     }
 
-    /// Gathers the indentation of one of the first levels and two texts after it, where there is room for that of the last of them.
+    /// Gathers the indentation of one of the first levels and three texts after it, where there is room for that of the last of them.
     #[inline(always)]
-    pub(crate) fn gather_indented(&mut self, level: usize, first: &[u8], second: &[u8])
+    pub(crate) fn gather_indented(
+        &mut self,
+        level: usize,
+        first: &[u8],
+        second: &[u8],
+        third: &[u8],
+    )
         requires few { level ≤ 16 }
-        requires room { self.old.len + (length first.now + (64 + length second.now)) ≤ N }
-        ensures page_bytes { page_bytes self.new ≡ page_bytes self.old ++ replicate (4 * level) 32 ++ first.now ++ second.now }
+        requires room { self.old.len + (length second.now + (64 + length first.now + length third.now)) ≤ N }
+        ensures page_bytes { page_bytes self.new ≡ page_bytes self.old ++ replicate (4 * level) 32 ++ first.now ++ second.now ++ third.now }
         ensures taken { self.new.taken ≡ self.old.taken }
     {
         self.gather_spaces(4 * level);
         self.gather(first);
         self.gather(second);
+        self.gather(third);
+    }
+
+    /// Gathers the first line of a text after the indentation of one of the first levels, where there is room for that of the last of
+    /// them, for the whole text and for some bytes more. Gives how many bytes the line has without its end.
+    #[inline(always)]
+    pub(crate) fn gather_line(&mut self, level: usize, text: &[u8]) -> usize
+        requires few { level ≤ 16 }
+        requires room { self.old.len + (length text.now + 81) ≤ N }
+        ensures line { result ≡ line_len text.now }
+        ensures page_bytes { page_bytes self.new ≡ page_bytes self.old ++ printed_line (level, take result text.now) }
+        ensures taken { self.new.taken ≡ self.old.taken }
+    {
+        self.gather_spaces(4 * level);
+        let len = place_line(&mut self.bytes[..], self.len, text);
+        self.len += len;
+        self.gather(b"\n");
+        len
     }
 
     /// Gathers this many spaces, where there is room for all of them: so many are copied, which takes the fewest steps.

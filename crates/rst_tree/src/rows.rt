@@ -48,13 +48,13 @@ pub fn attributes()
 pub fn names()
     ensures elements_to_label { map tag_name
         (tag.Abbreviation ∷ tag.Acronym ∷ tag.Address ∷ tag.Admonition ∷ tag.Attention ∷ tag.Attribution ∷ tag.Author ∷ tag.Authors ∷ tag.BlockQuote ∷ tag.BulletList
-        ∷ tag.Caption ∷ tag.Caution ∷ tag.Citation ∷ tag.CitationReference ∷ tag.Classifier ∷ tag.Colspec ∷ tag.Comment ∷ tag.Compound
-        ∷ tag.Contact ∷ tag.Container ∷ tag.Copyright ∷ tag.Danger ∷ tag.Date ∷ tag.Definition ∷ tag.DefinitionList ∷ tag.DefinitionListItem ∷ tag.Description ∷ tag.Docinfo
+        ∷ tag.Caption ∷ tag.Caution ∷ tag.Citation ∷ tag.CitationReference ∷ tag.Class ∷ tag.Classifier ∷ tag.Colspec ∷ tag.Comment ∷ tag.Compound
+        ∷ tag.Contact ∷ tag.Container ∷ tag.Contents ∷ tag.Copyright ∷ tag.Danger ∷ tag.Date ∷ tag.Definition ∷ tag.DefinitionList ∷ tag.DefinitionListItem ∷ tag.Description ∷ tag.Docinfo
         ∷ tag.DoctestBlock ∷ tag.Document ∷ tag.Emphasis ∷ tag.Entry ∷ tag.EnumeratedList ∷ tag.Error ∷ tag.Field ∷ tag.FieldBody ∷ tag.FieldList
         ∷ tag.FieldName ∷ tag.Figure ∷ tag.Footnote ∷ tag.FootnoteReference ∷ tag.Handed ∷ tag.Hint ∷ tag.Image ∷ tag.Important ∷ tag.Label ∷ [])
         ≡ codes "abbreviation" ∷ codes "acronym" ∷ codes "address" ∷ codes "admonition" ∷ codes "attention" ∷ codes "attribution" ∷ codes "author" ∷ codes "authors" ∷ codes "block_quote"
-        ∷ codes "bullet_list" ∷ codes "caption" ∷ codes "caution" ∷ codes "citation" ∷ codes "citation_reference" ∷ codes "classifier"
-        ∷ codes "colspec" ∷ codes "comment" ∷ codes "compound" ∷ codes "contact" ∷ codes "container" ∷ codes "copyright" ∷ codes "danger" ∷ codes "date" ∷ codes "definition"
+        ∷ codes "bullet_list" ∷ codes "caption" ∷ codes "caution" ∷ codes "citation" ∷ codes "citation_reference" ∷ codes "class" ∷ codes "classifier"
+        ∷ codes "colspec" ∷ codes "comment" ∷ codes "compound" ∷ codes "contact" ∷ codes "container" ∷ codes "contents" ∷ codes "copyright" ∷ codes "danger" ∷ codes "date" ∷ codes "definition"
         ∷ codes "definition_list" ∷ codes "definition_list_item" ∷ codes "description" ∷ codes "docinfo" ∷ codes "doctest_block"
         ∷ codes "document" ∷ codes "emphasis" ∷ codes "entry" ∷ codes "enumerated_list" ∷ codes "error" ∷ codes "field" ∷ codes "field_body"
         ∷ codes "field_list" ∷ codes "field_name" ∷ codes "figure" ∷ codes "footnote" ∷ codes "footnote_reference" ∷ codes "handed" ∷ codes "hint" ∷ codes "image"
@@ -76,12 +76,12 @@ pub fn names()
     ensures attributes { map key_name
         (key.Align ∷ key.Alt ∷ key.Anonymous ∷ key.Auto ∷ key.Backrefs ∷ key.Bullet ∷ key.Classes ∷ key.Cols ∷ key.Colwidth
         ∷ key.Delimiter ∷ key.Dupnames ∷ key.Enumtype ∷ key.Format ∷ key.Height ∷ key.Ids ∷ key.Kind ∷ key.Level ∷ key.Line ∷ key.Morecols ∷ key.Morerows ∷ key.Name
-        ∷ key.Names ∷ key.Prefix ∷ key.Refid ∷ key.Refuri ∷ key.Scale ∷ key.Source ∷ key.Start ∷ key.Suffix ∷ key.Title ∷ key.Type_ ∷ key.Uri
+        ∷ key.Names ∷ key.Prefix ∷ key.Refid ∷ key.Refuri ∷ key.Scale ∷ key.Source ∷ key.Start ∷ key.Stub ∷ key.Suffix ∷ key.Title ∷ key.Type_ ∷ key.Uri
         ∷ key.Width ∷ key.XmlSpace ∷ [])
         ≡ codes "align" ∷ codes "alt" ∷ codes "anonymous" ∷ codes "auto" ∷ codes "backrefs" ∷ codes "bullet" ∷ codes "classes" ∷ codes "cols"
         ∷ codes "colwidth" ∷ codes "delimiter" ∷ codes "dupnames" ∷ codes "enumtype" ∷ codes "format" ∷ codes "height" ∷ codes "ids" ∷ codes "kind" ∷ codes "level" ∷ codes "line"
         ∷ codes "morecols" ∷ codes "morerows" ∷ codes "name" ∷ codes "names" ∷ codes "prefix" ∷ codes "refid" ∷ codes "refuri" ∷ codes "scale"
-        ∷ codes "source" ∷ codes "start" ∷ codes "suffix" ∷ codes "title" ∷ codes "type" ∷ codes "uri" ∷ codes "width" ∷ codes "xml:space" ∷ [] }
+        ∷ codes "source" ∷ codes "start" ∷ codes "stub" ∷ codes "suffix" ∷ codes "title" ∷ codes "type" ∷ codes "uri" ∷ codes "width" ∷ codes "xml:space" ∷ [] }
 {}
 
 /// Messages (Document Tree, 'Element Reference').

@@ -14,7 +14,7 @@ use std::alloc::{AllocError, Global};
 use std::marker::Model;
 
 /// A document: the attributes of each element are in the order of their names, each name once; no text holds a line end
-/// but LF; and the nodes nest no deeper than 1,350.
+/// but LF; and the nodes nest no deeper than 1,550.
 #[derive(Debug, Drop)]
 pub struct Tree {
     root: Node,
@@ -39,7 +39,7 @@ impl Model for Tree {
 
 impl Tree {
     /// The most that nodes nest, the root included.
-    pub const MOST_LEVELS: usize = 1350;
+    pub const MOST_LEVELS: usize = 1550;
 
     /// The node as a tree, or the node back where it is none.
     pub fn of(root: Node) -> Result<Tree, Node>

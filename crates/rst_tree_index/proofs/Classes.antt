@@ -1,15 +1,16 @@
 -- What registration needs of a node stays, where its classes change.
-use Rattle.std.proofs.Common.{◌≡◌, ◌++◌, true, false, List, [], ◌∷◌, refl, sym, ap, true≢false}
+use Rattle.std.proofs.Common.{◌≡◌, ℕ, ◌∙◌, ◌++◌, true, false, List, [], ◌∷◌, refl, sym, ap, true≢false}
 use Rattle.std.specs.Prelude.{◌||◌, if◌then◌else◌, map, nat_lt}
-use Rattle.rst_tree.specs.Attributes.{attr, with_attr}
+use Rattle.rst_tree.specs.Attributes.{attr, value_of, with_attr, without_key}
 use Rattle.rst_tree.specs.KeyNames.{key_code, is_same}
-use Rattle.rst_tree.specs.Paths.{with_value}
 use Rattle.rst_tree.specs.declared.attrs.Attr.{Attr}
 use Rattle.rst_tree.specs.declared.attrs.Value.{Value}
+use Rattle.rst_tree.specs.declared.attrs.Value.TheVariants.{List as Listed}
 use Rattle.rst_tree.specs.declared.key.Key.{Key}
 use Rattle.rst_tree.specs.declared.key.Key.TheVariants.{Classes, Message, OwnName}
 use Rattle.rst_tree.specs.declared.node.Node.{Node}
 use Rattle.rst_tree.specs.declared.node.Node.TheVariants.{Element, Text}
+use Rattle.rst_tree_index.specs.Classes.{classes_in, with_classes}
 use Rattle.rst_tree_index.specs.Marks.{marks_of, path_of, places}
 use Rattle.rst_tree_index.specs.Registered.{has_registered_key, is_registered, is_registered_key, is_registered_kind}
 
@@ -31,7 +32,16 @@ key_stays v (a ∷ xs) =
           ] refl
     ]
 
+key_left : (xs : List Attr) → has_registered_key (without_key Classes xs) ≡ has_registered_key xs
+key_left [] = refl
+key_left (a ∷ xs) =
+    elim (is_same a.key Classes) as (λ b. (is_same a.key Classes ≡ b) → has_registered_key (if b then xs else a ∷ without_key Classes xs) ≡ has_registered_key (a ∷ xs)) [
+      | true ↦ λ e. ap (λ b. b || has_registered_key xs) (sym (no_key a.key e))
+      | false ↦ λ e. ap (λ b. is_registered_key a.key || b) (key_left xs)
+    ] refl
+
 -- its marks are those that it had
-pub marks_stay : (v : Value) (n : Node) → marks_of is_registered (with_value Classes v n) ≡ marks_of is_registered n
-marks_stay v (Element t a c l) = ap (λ b. (if is_registered_kind t || b then [] ∷ [] else []) ++ map path_of (places is_registered c)) (key_stays v a)
-marks_stay v (Text t) = refl
+pub marks_stay : (more : List (List ℕ)) (n : Node) → marks_of is_registered (with_classes more n) ≡ marks_of is_registered n
+marks_stay more (Element t a c l) =
+    ap (λ b. (if is_registered_kind t || b then [] ∷ [] else []) ++ map path_of (places is_registered c)) (key_stays (Listed (classes_in (value_of Classes a) ++ more)) (without_key Classes a) ∙ key_left a)
+marks_stay more (Text t) = refl

@@ -1,12 +1,12 @@
 -- What is known of nodes, as more come after them, as they become those of an element, and as the first is taken.
-use Rattle.std.proofs.Common.{◌≡◌, ℕ, ◌+◌, ◌-◌, ◌^◌, ◌≤◌, min, suc, length, List, [], ◌∷◌, ◌++◌, append_assoc, refl, sym, ◌∙◌, ap, ap₂, arith}
+use Rattle.std.proofs.Common.{◌≡◌, ◌≢◌, ℕ, ◌+◌, ◌-◌, ◌^◌, ◌≤◌, min, suc, length, List, [], ◌∷◌, ◌++◌, append_assoc, refl, sym, ◌∙◌, ap, ap₂, subst, arith}
 use Rattle.std.specs.Prelude.{map}
 use Rattle.std.proofs.lemmas.List.{append-nil, length-append, map-append}
 use Rattle.rst_tree.specs.declared.node.Node.{Node}
 use Rattle.rst_tree.specs.Nodes.{forest_of}
-use Rattle.rst_tree_index.specs.declared.marked_nodes.Known.{Known}
+use Rattle.rst_tree_index.specs.declared.marks.Mark.{Mark}
 use Rattle.rst_tree_index.specs.Known.{MarkedPlace, entry_after, place_and_marks, known_at, known_of, entry_paths}
-use Rattle.rst_tree_index.specs.MarkPaths.{node_paths}
+use Rattle.rst_tree_index.specs.MarkPaths.{AreUsed, node_paths, paths_in}
 use Rattle.rst_tree_index.specs.Marks.{marks_of, path_of, places}
 use Rattle.rst_tree_index.specs.Registered.{is_registered}
 use Rattle.rst_tree_index.proofs.Marking.{paths_push}
@@ -32,7 +32,7 @@ entries_after b i (n ∷ ns) fits = by (marks_of is_registered n) (entries_after
         ap₂ (λ k es. (k, p ∷ ps) ∷ es) here rest
 
 -- what is known of them follows what is known of the others
-pub appended : (ks ms moved : List Known) (ns more : List Node) (before : ℕ) → map place_and_marks ks ≡ known_of 0 ns → map place_and_marks ms ≡ known_of 0 more → before ≡ length ns
+pub appended : (ks ms moved : List Mark) (ns more : List Node) (before : ℕ) → map place_and_marks ks ≡ known_of 0 ns → map place_and_marks ms ≡ known_of 0 more → before ≡ length ns
     → length ns + length more ≤ 2 ^ 64 - 1 → map place_and_marks moved ≡ map (entry_after before) (map place_and_marks ms) → map place_and_marks (ks ++ moved) ≡ known_of 0 (ns ++ more)
 appended ks ms moved ns more before known others at fits put =
     map-append place_and_marks ks moved
@@ -67,18 +67,33 @@ paths_from before (n ∷ ns) =
     ∙ append_assoc old_paths mine (entry_paths (known_of (suc i) ns))
     ∙ ap (λ z. old_paths ++ z) (sym (paths_at i (marks_of is_registered n) (known_of (suc i) ns)))
 
-pub all_paths : (ks : List Known) (ns : List Node) (inner : List (List ℕ)) → map place_and_marks ks ≡ known_of 0 ns → inner ≡ entry_paths (map place_and_marks ks) → inner ≡ [] ++ map path_of (places is_registered (forest_of ns))
+pub all_paths : (ks : List Mark) (ns : List Node) (inner : List (List ℕ)) → map place_and_marks ks ≡ known_of 0 ns → inner ≡ entry_paths (map place_and_marks ks) → inner ≡ [] ++ map path_of (places is_registered (forest_of ns))
 all_paths ks ns inner known all = all ∙ ap entry_paths known ∙ sym (paths_from [] ns)
 
--- one more entry
-paths_push_one : (ks : List Known) (k : Known) → entry_paths (map place_and_marks (ks ++ k ∷ [])) ≡ entry_paths (map place_and_marks ks) ++ map (λ p. k.place ∷ p) (node_paths k.own k.inner)
-paths_push_one [] k = append-nil (map (λ p. k.place ∷ p) (node_paths k.own k.inner))
-paths_push_one (x ∷ ks) k =
-    let mine : List (List ℕ) = map (λ p. x.place ∷ p) (node_paths x.own x.inner) in
-    ap (λ z. mine ++ z) (paths_push_one ks k) ∙ sym (append_assoc mine (entry_paths (map place_and_marks ks)) (map (λ p. k.place ∷ p) (node_paths k.own k.inner)))
+-- the marks of a list lead where what is known of its nodes does
+pub marks_paths : (ks : List Mark) → paths_in ks ≡ entry_paths (map place_and_marks ks)
+marks_paths [] = refl
+marks_paths (k ∷ ks) = ap (λ z. map (λ p. k.place ∷ p) (node_paths k.own k.inner) ++ z) (marks_paths ks)
 
-pub paths_next : (ks : List Known) (k : Known) (old now : List (List ℕ)) → old ≡ entry_paths (map place_and_marks ks) → now ≡ old ++ map (λ p. k.place ∷ p) (node_paths k.own k.inner) → now ≡ entry_paths (map place_and_marks (ks ++ k ∷ []))
-paths_next ks k old now before all = all ∙ ap (λ z. z ++ map (λ p. k.place ∷ p) (node_paths k.own k.inner)) before ∙ sym (paths_push_one ks k)
+-- each node of which anything is known has a mark
+abbrev HaveMarks : List MarkedPlace → Type 0
+HaveMarks [] = Unit {0}
+HaveMarks (e ∷ es) = (e.1 ≢ []) × HaveMarks es
+
+known_marks : (i : ℕ) (ns : List Node) → HaveMarks (known_of i ns)
+known_marks i [] = tt
+known_marks i (n ∷ ns) = by (marks_of is_registered n) (known_marks (suc i) ns)
+  where
+    by : (ps : List (List ℕ)) → HaveMarks (known_of (suc i) ns) → HaveMarks (known_at i ps ++ known_of (suc i) ns)
+    by [] rest = rest
+    by (p ∷ ps) rest = ((λ none. cc), rest)
+
+listed_marks : (ks : List Mark) → HaveMarks (map place_and_marks ks) → AreUsed ks
+listed_marks [] all = tt
+listed_marks (k ∷ ks) all = (all.0, listed_marks ks all.1)
+
+pub known_used : (ks : List Mark) (ns : List Node) → map place_and_marks ks ≡ known_of 0 ns → AreUsed ks
+known_used ks ns known = listed_marks ks (subst HaveMarks (sym known) (known_marks 0 ns))
 
 -- ---- the first node
 

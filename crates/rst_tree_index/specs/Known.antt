@@ -1,7 +1,7 @@
 -- What is known of some nodes: the marks of those that have any. No rule of markup: it spares a pass over them.
 use Rattle.std.specs.Prelude.{ℕ, suc, ◌+◌, ◌-◌, ◌^◌, min, List, [], ◌∷◌, ◌++◌, map}
 use Rattle.rst_tree.specs.declared.node.Node.{Node}
-use Rattle.rst_tree_index.specs.declared.marked_nodes.Known.{Known}
+use Rattle.rst_tree_index.specs.declared.marks.Mark.{Mark}
 use Rattle.rst_tree_index.specs.MarkPaths.{node_paths}
 use Rattle.rst_tree_index.specs.Marks.{marks_of}
 use Rattle.rst_tree_index.specs.Registered.{is_registered}
@@ -10,7 +10,7 @@ use Rattle.rst_tree_index.specs.Registered.{is_registered}
 abbrev pub MarkedPlace : Type 0
 MarkedPlace = ℕ × List (List ℕ)
 
-abbrev pub place_and_marks : Known → MarkedPlace
+abbrev pub place_and_marks : Mark → MarkedPlace
 place_and_marks k = (k.place, node_paths k.own k.inner)
 
 -- the same of a node before which `before` others were put

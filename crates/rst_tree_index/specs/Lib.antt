@@ -1,4 +1,5 @@
 pub mod Registered
+pub mod Classes
 pub mod Marks
 pub mod MarkPaths
 pub mod MarkLengths

@@ -21,10 +21,10 @@ AreFlat h bare = Unit {0}
 AreFlat h (element t a c l r) = (t ≡ SubstitutionDefinition → levels_by h c ≤ h) × AreFlat h c × AreFlat h r
 AreFlat h (words t r) = AreFlat h r
 
--- It is a document, with at least eleven levels fewer than a tree may have. Its replacement texts have at most two levels, where each substitution
+-- It is a document, with at least 205 levels fewer than a tree may have. Its replacement texts have at most two levels, where each substitution
 -- reference counts as two. Its texts, and the values that become texts, consist of text characters.
 pub record IsParsed (document : Node) : Type 0 where
   pub kind : IsDocument document
-  pub levels : node_height document + 11 ≤ most_levels
+  pub levels : node_height document + 205 ≤ most_levels
   pub flat : AreFlat 2 (children_in document)
   pub texts : NodeHas (Spells is_text_character) document

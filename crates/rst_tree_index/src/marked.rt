@@ -1,16 +1,16 @@
 //! A node with the places of the elements that registration needs, these elements, and changes at them.
 ghost use Rattle.std.specs.Prelude.{◌≡◌, ◌++◌, map, if◌then◌else◌, filter, IfOk};
-ghost use Rattle.rst_tree.specs.Paths.{with_value};
 ghost use Rattle.rst_tree.specs.Walk.{item, node_items, after, walked_node};
-ghost use Rattle.rst_tree.specs.declared.attrs.Value.TheVariants.{List as Listed};
+ghost use Rattle.rst_tree.specs.Attributes.{value_of, without_key};
 ghost use Rattle.rst_tree.specs.declared.key.Key.TheVariants.{Classes};
+ghost use Rattle.rst_tree_index.specs.Classes.{classes_in, with_classes, with_more_classes};
 ghost use Rattle.rst_tree_index.specs.MarkPaths.{node_paths};
 ghost use Rattle.rst_tree_index.specs.Marks.{marks_of, heeded_next, heeded_out, path_of, places, visited_all, with_elements_at};
 ghost use Rattle.rst_tree_index.specs.Registered.{is_registered, item_of};
 
 use crate::marks::Marks;
 use crate::registered::is_registered;
-use rst_tree::{Attrs, Children, Key, Node, Result, Tag, Texts, Value, Visitor};
+use rst_tree::{Attrs, Children, Key, Node, Result, Tag, Text, Texts, Value, Visitor};
 use std::alloc::Global;
 use std::marker::Model;
 
@@ -137,7 +137,7 @@ fn add_marks(alloc: Global, nodes: &Children, marks: &mut Marks) -> Result<()>
 pub(crate) fn marks_of(alloc: Global, node: &Node) -> Result<(bool, Marks)>
     ensures { IfOk result (λ marks. node_paths marks.0 marks.1 ≡ marks_of is_registered node.now) }
 {
-    let mut inner = Marks::none(alloc);
+    let mut marks = Marks::none(alloc);
     let Node::Element {
         tag,
         attrs,
@@ -145,10 +145,37 @@ pub(crate) fn marks_of(alloc: Global, node: &Node) -> Result<(bool, Marks)>
         line,
     } = node
     else {
-        return Ok((false, inner));
+        return Ok((false, marks));
     };
-    add_marks(alloc, children, &mut inner)?;
-    Ok((is_registered(*tag, attrs, *line), inner))
+    let own = is_registered(*tag, attrs, *line);
+    // Most elements hold a text alone.
+    if children.are_plain() {
+        return Ok((own, marks));
+    }
+    add_marks(alloc, children, &mut marks)?;
+    Ok((own, marks))
+}
+
+/// Takes out the classes among some attributes; none where there are none.
+fn take_classes(alloc: Global, attrs: &mut Attrs) -> Texts
+    ensures classes { result ≡ classes_in (value_of Classes attrs.old) }
+    ensures rest { attrs.new ≡ without_key Classes attrs.old }
+{
+    match attrs.remove(Key::Classes) {
+        Some(Value::List(classes)) => classes,
+        _ => Texts::new(alloc),
+    }
+}
+
+/// Puts classes after those among some attributes, which are taken out and put back: nobody copies them.
+fn add_classes(alloc: Global, attrs: &mut Attrs, more: &[Text]) -> Result<()>
+    ensures { IfOk result (λ _. attrs.new ≡ with_more_classes more.now attrs.old) }
+{
+    let mut classes = take_classes(alloc, attrs);
+    for class in more {
+        classes.push(class.copy()?)?;
+    }
+    attrs.set(Key::Classes, Value::List(classes))
 }
 
 /// A node, and where those of its elements are that registration needs: their paths, in preorder.
@@ -201,9 +228,9 @@ impl Marked {
         Marked { root, own, inner }
     }
 
-    /// The node with these classes, in place of those that it has; a text has none. Registration looks at no classes, so its marks stay.
-    pub fn with_classes(self, classes: Texts) -> Result<Marked>
-        ensures { IfOk result (λ m. m ≡ with_value Classes (Listed classes) self) }
+    /// The node with these classes after its own; a text has none. Registration looks at no classes, so its marks stay.
+    pub fn with_classes(self, alloc: Global, classes: &[Text]) -> Result<Marked>
+        ensures { IfOk result (λ m. m ≡ with_classes classes.now self) }
     {
         let Marked {
             mut root,
@@ -211,7 +238,7 @@ impl Marked {
             inner,
         } = self;
         if let Node::Element { attrs, .. } = &mut root {
-            attrs.set(Key::Classes, Value::List(classes))?;
+            add_classes(alloc, attrs, classes)?;
         }
         Ok(Marked::from_parts(root, own, inner))
     }

@@ -7,43 +7,32 @@ ghost use Rattle.rst_tree_index.specs.Marks.{marks_of};
 ghost use Rattle.rst_tree_index.specs.Registered.{is_registered};
 
 use crate::marked::{Marked, marks_of};
-use crate::marks::{Marks, is_used};
+use crate::marks::{Mark, Marks, is_used};
 use crate::registered::is_registered;
 use rst_tree::{Attrs, Children, Node, Result, Tag};
 use std::alloc::Global;
 use std::marker::Model;
 use std::vec::IntoIter;
 
-/// What is known of one of some nodes.
-#[derive(Debug, Drop)]
-struct Known {
-    /// Its place among the nodes.
-    place: usize,
-    /// Whether it is marked itself.
-    own: bool,
-    /// The marks in it.
-    inner: Marks,
-}
-
 /// Puts what is known of the node at a place after the rest, if anything is known.
 #[inline(always)]
-fn note(known: &mut Vec<Known>, place: usize, own: bool, inner: Marks) -> Result<()>
+fn note(known: &mut Vec<Mark>, place: usize, own: bool, inner: Marks) -> Result<()>
     ensures noted { IfOk result (λ _. map place_and_marks known.new.items ≡ map place_and_marks known.old.items ++ known_at place (node_paths own inner)) }
     ensures kept { OnErr result (known.new.items ≡ known.old.items) }
 {
     if is_used(own, &inner) {
-        known.push(Known { place, own, inner })?;
+        known.push(Mark { place, own, inner })?;
     }
     Ok(())
 }
 
 /// What is known of some nodes, when they follow `before` others.
-fn known_after(known: Vec<Known>, before: usize) -> Result<Vec<Known>>
+fn known_after(known: Vec<Mark>, before: usize) -> Result<Vec<Mark>>
     ensures { IfOk result (λ moved. map place_and_marks moved.items ≡ map (entry_after before) (map place_and_marks known.items)) }
 {
     let mut moved = Vec::with_capacity(*known.allocator(), known.len())?;
-    for Known { place, own, inner } in known {
-        moved.push(Known {
+    for Mark { place, own, inner } in known {
+        moved.push(Mark {
             place: before.saturating_add(place),
             own,
             inner,
@@ -72,7 +61,7 @@ fn make_room(nodes: &mut Vec<Node>) -> Result<()>
 #[derive(Debug, Drop)]
 pub struct MarkedNodes {
     nodes: Vec<Node>,
-    known: Vec<Known>,
+    known: Vec<Mark>,
 }
 
 impl Model for MarkedNodes {
@@ -230,20 +219,16 @@ impl MarkedNodes {
         ensures { IfOk result (λ m. m ≡ Tagged tag attrs (forest_of self) line) }
     {
         let own = is_registered(tag, &attrs, line);
-        let mut inner = Marks::none(*self.nodes.allocator());
         let MarkedNodes { mut nodes, known } = self;
         // The list stays as it is in the element, so it keeps no room for more.
         nodes.shrink_to_fit();
-        for node in known {
-            inner.push(node.place, node.own, node.inner)?;
-        }
         let root = Node::Element {
             tag,
             attrs,
             children: Children::of(nodes),
             line,
         };
-        Ok(Marked::from_parts(root, own, inner))
+        Ok(Marked::from_parts(root, own, Marks::of_used(known)))
     }
 
     /// The nodes one after the other, each with its marks.
@@ -268,9 +253,9 @@ impl MarkedNodes {
 pub struct MarkedIter {
     nodes: IntoIter<Node>,
     /// What is known of the nodes after those that `ahead` is about.
-    known: IntoIter<Known>,
+    known: IntoIter<Mark>,
     /// What is known of the first node of which anything is.
-    ahead: Option<Known>,
+    ahead: Option<Mark>,
     /// How many nodes there were, those that were taken among them.
     count: usize,
 }

@@ -67,6 +67,15 @@ impl Marks {
         }
     }
 
+    /// The marks of a list, each of a node that is marked or has marks in it.
+    #[inline(always)]
+    pub fn of_used(list: Vec<Mark>) -> Marks
+        requires { AreUsed list.items }
+        ensures { result ≡ paths_in list.items }
+    {
+        Marks { list }
+    }
+
     /// The marks, one for each node.
     pub fn as_slice(&self) -> &[Mark]
         ensures paths { self.now ≡ paths_in result.now }

@@ -11,7 +11,7 @@ use Rattle.rst_tree.specs.declared.attrs.Attr.{Attr}
 use Rattle.rst_tree.specs.declared.attrs.Value.{Value}
 use Rattle.rst_tree.specs.declared.attrs.Value.TheVariants.{Text as TextValue}
 use Rattle.rst_tree.specs.declared.key.Key.{Key}
-use Rattle.rst_tree.specs.declared.key.Key.TheVariants.{OwnName, Rawsource, Refname}
+use Rattle.rst_tree.specs.declared.key.Key.TheVariants.{Alt, OwnName, Rawsource, Refname}
 use Rattle.rst_tree.specs.declared.node.Node.{Node}
 use Rattle.rst_tree.specs.declared.node.Node.TheVariants.{Element, Text as Words}
 use Rattle.rst_tree.specs.declared.note.Note.{Note}
@@ -43,8 +43,10 @@ pub record Suits (P : ℕ → Bool) : Type 0 where
 
 -- ---- trees whose texts have a property
 
--- The transforms make texts of the values of these attributes: a reference that fails is shown by its source, and messages quote names.
+-- The transforms make texts of the values of these attributes: a reference that fails is shown by its source, messages quote names, and a table of
+-- contents shows an image by its alternate text.
 abbrev pub becomes_text : Key → Bool
+becomes_text Alt = true
 becomes_text OwnName = true
 becomes_text Rawsource = true
 becomes_text Refname = true

@@ -121,7 +121,7 @@ fn knows_trees(rt: HostRuntime) -> Result<(), Fail> {
     for &(given, want) in &[("a\nb\u{1F}", true), ("a\rb", false), ("a\u{2028}", false)] {
         judge(&rt, text(alloc, given)?, want);
     }
-    for &(levels, want) in &[(1350, true), (1351, false)] {
+    for &(levels, want) in &[(1550, true), (1551, false)] {
         judge(&rt, nested(alloc, levels)?, want);
     }
     Ok(())
@@ -161,7 +161,7 @@ fn changes_trees(rt: HostRuntime) -> Result<(), Fail> {
         Some(ValueRef::Text(given)) => assert_eq!(rt; given.as_str(), "Title"),
         _ => assert!(rt; false),
     }
-    assert!(rt; !tree.fits(&[1], &nested(alloc, 1349)?));
+    assert!(rt; !tree.fits(&[1], &nested(alloc, 1549)?));
     let more = text(alloc, "b\n")?;
     assert!(rt; !tree.fits(&[1, 0], &more));
     assert!(rt; tree.fits(&[1], &more));

@@ -18,6 +18,8 @@ _AFTER = re.compile(rf":({_NAME}):")
 _LONGEST = 100  # characters of a name: no more are looked at, so the time grows with the text alone, whatever it is
 _MADE = re.compile(rf"(?<!\S){_NAME} ?:: +({_NAME})")  # by the directive `role`
 _FILE = re.compile(r"^[^\S\n]*:(?:file|url):", re.MULTILINE)  # options with which `raw` reads a file
+PLACES = frozenset({"class", "contents"})
+"""Directives of Docutils that leave a place for a transform: they are always handed back."""
 _MORE = frozenset({"default-role", "include", "role"})  # directives that change what roles mean
 UNNAMED = ""  # the name of the role of interpreted text that is written without one
 _BASE = (
@@ -33,7 +35,8 @@ _WIDER = (
         "pep-reference raw rfc rfc-reference substitution-reference target uri uri-reference url".split()
     ),
 )
-# What the library never does isn't its own: to include a file.
+# What the library never does isn't its own: to include a file. Nor are the directives that leave a place for a transform: where something is
+# handed back, the transforms are Docutils' own.
 OWN = {"base": _BASE, "docutils": (_BASE[0] | _WIDER[0], _BASE[1] | _WIDER[1])}
 """The directives and the roles that a profile has itself."""
 
@@ -73,7 +76,7 @@ class Names:
         return of_directives, of_roles
 
     def _is_handed(self, name: str, kind: int, language: Any, more: bool = False) -> bool:
-        if self.all or name in self.given:
+        if self.all or name in self.given or (kind == 0 and name in PLACES):
             return True
         if name in self.own[kind]:
             return not _is_of_docutils(_found(name, kind, language))

@@ -67,6 +67,14 @@ pub fn verse_and_formulas()
         ∷ "    <math_block xml:space=\"preserve\">" ∷ "        c &= \\alpha" ∷ "    <math_block xml:space=\"preserve\">" ∷ "        *d*" ∷ []) [] 0 }
 {}
 
+/// Classes of what is in a directive (Directives, 'Class').
+pub fn class_names()
+    ensures content { Reports wide (".. class:: special" ∷ "" ∷ "   .. a" ∷ "" ∷ "   b" ∷ "" ∷ "   - c" ∷ [])
+        ("<document source=\"x\">" ∷ "    <comment classes=\"special\" xml:space=\"preserve\">" ∷ "        a" ∷ "    <paragraph classes=\"special\">"
+        ∷ "        b" ∷ "    <bullet_list bullet=\"-\" classes=\"special\">" ∷ "        <list_item>" ∷ "            <paragraph>" ∷ "                c"
+        ∷ []) [] 0 }
+{}
+
 /// Files, which aren't included (Directives, 'Including an External Document Fragment').
 pub fn included_files()
     ensures disabled { Reports wide (".. include:: inc.txt" ∷ [])

@@ -6,6 +6,7 @@ use Rattle.rst_text.specs.Block.{Block, first_number}
 use Rattle.rst_text.specs.ViewBlock.{placement_block}
 use Rattle.rst_tree.specs.declared.node.Node.{Node}
 use Rattle.rst_tree.specs.declared.tag.Tag.TheVariants.{BlockQuote, ListItem}
+use Rattle.rst_tree_index.specs.Classes.{classes_of}
 use Rattle.rst_markup_blocks.specs.declared.part.Part.{Part}
 use Rattle.rst_markup_tables.specs.Ends.{end_of}
 use Rattle.rst_block_nodes.specs.Elements.{element_of}
@@ -13,7 +14,7 @@ use Rattle.rst_block_nodes.specs.LineBlocks.{indented}
 use Rattle.rst_block_nodes.specs.declared.texted.Texted.{Texted}
 use Rattle.rst_block_nodes.specs.Sections.{items_of, filled}
 use Rattle.rst_block_state.specs.Constructs.{block_quote, grid}
-use Rattle.rst_block_state.specs.Directives.{classed, first_paragraph, replacement}
+use Rattle.rst_block_state.specs.Directives.{classed, first_paragraph, replacement, with_words}
 use Rattle.rst_block_state.specs.Figures.{caption_error, figure_nodes}
 use Rattle.rst_block_state.specs.Joins.{Joining, bullets, enumerators, definitions, fields, options, alone_ending}
 use Rattle.rst_block_state.specs.Nodes.{plainly, inner_nodes, below_last_level, block_items, nodes_among, ending_notes}
@@ -29,7 +30,7 @@ use Rattle.rst_block_nodes.specs.declared.fault.BlockFault.TheVariants.{TooDeep,
 use Rattle.rst_block_state.specs.declared.frame.Frame.{Frame}
 use Rattle.rst_block_state.specs.declared.open_block.OpenBlock.{OpenBlock}
 use Rattle.rst_block_state.specs.declared.waits.Waits.{Waits}
-use Rattle.rst_block_state.specs.declared.waits.Waits.TheVariants.{ListItem as InItem, ListedBody, Quote, Element, Quotes, Figure, Replacement}
+use Rattle.rst_block_state.specs.declared.waits.Waits.TheVariants.{ListItem as InItem, ListedBody, Quote, Element, Quotes, Classes, Figure, Replacement}
 use Rattle.rst_block_state.specs.declared.run.ListKind.{ListKind}
 use Rattle.rst_block_state.specs.declared.run.ListKind.TheVariants.{Bullet, Enumerated, Definition, Field, OptionItem}
 use Rattle.rst_block_state.specs.declared.run.OpenList.{OpenList}
@@ -136,6 +137,7 @@ resumed l B (ListedBody line item body heads notes) ns =
 resumed l B (Quote line attribution left end) ns = after_quote l B (quote_by line (option_map box_value attribution) ns) left end
 resumed l B (Element e) ns = reads_from l B (filled e ns ∷ []) l.at
 resumed l B (Quotes class) ns = reads_from l B (map (classed class) ns) l.at
+resumed l B (Classes element) ns = reads_from l B (map (with_words (classes_of element)) ns) l.at
 resumed l B (Figure figure start end) ns =
     let error = caption_error (first_number (drop start B)) (span_source B (record { start = start; stop = end })) in
     reads_from l B (figure_nodes figure error ns) l.at

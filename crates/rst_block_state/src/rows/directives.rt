@@ -292,6 +292,31 @@ pub fn classed_quotes()
         ∷ "            .. Epigraph::" ∷ []) }
 {}
 
+/// Classes of what is in a directive, or follows it (Directives, 'Class').
+pub fn class_names()
+    ensures content { MeansWider (".. class:: A_b" ∷ "   :name: x" ∷ "" ∷ "   a" ∷ "" ∷ "   .. note:: b" ∷ "      :class: c" ∷ []) 0
+        ("<document> 0" ∷ "    <paragraph classes=\"a-b name x\"> 4" ∷ "        a" ∷ "    <note classes=\"c a-b name x\"> 6" ∷ "        <paragraph> 6"
+        ∷ "            b" ∷ []) }
+    ensures without_content { MeansWider (".. class:: a" ∷ "   b" ∷ "" ∷ "c" ∷ []) 0
+        ("<document> 0" ∷ "    <class classes=\"a b\"> 1" ∷ "        .. class:: a" ∷ "           b" ∷ "    <paragraph> 4" ∷ "        c" ∷ []) }
+    ensures one_in_another { MeansWider (".. class:: a" ∷ "" ∷ "   .. class:: b" ∷ "" ∷ "      c" ∷ "" ∷ "   .. class:: d" ∷ []) 0
+        ("<document> 0" ∷ "    <paragraph classes=\"b a\"> 5" ∷ "        c" ∷ "    <class classes=\"d\"> 7" ∷ "        .. class:: d" ∷ []) }
+    ensures message_in_it { MeansWider (".. class:: a" ∷ "" ∷ "   *b" ∷ []) 1
+        ("<document> 0" ∷ "    <paragraph classes=\"a\" text_messages=\"1\"> 3" ∷ "        <problematic message=\"0\"> 3" ∷ "            *" ∷ "        b"
+        ∷ "    <system_message classes=\"a\" level=\"2\" message=\"0\"> 3" ∷ "        <paragraph> 3"
+        ∷ "            Inline emphasis start-string without end-string." ∷ []) }
+    ensures in_a_figure { MeansWider (".. figure:: u" ∷ "" ∷ "   .. class:: a" ∷ "" ∷ "      b" ∷ []) 0
+        ("<document> 0" ∷ "    <figure> 1" ∷ "        <image uri=\"u\"> 1" ∷ "        <caption> 5" ∷ "            b" ∷ []) }
+    ensures no_word { MeansWider (".. class:: 1" ∷ []) 0
+        ("<document> 0" ∷ "    <system_message level=\"3\"> 1" ∷ "        <paragraph> 1"
+        ∷ "            Invalid class attribute value for \"class\" directive: \"1\"." ∷ "        <literal_block xml:space=\"preserve\"> 1"
+        ∷ "            .. class:: 1" ∷ []) }
+    ensures without_an_argument { MeansWider (".. class::" ∷ "" ∷ "   a" ∷ []) 0
+        ("<document> 0" ∷ "    <system_message level=\"3\"> 1" ∷ "        <paragraph> 1" ∷ "            Error in \"class\" directive:"
+        ∷ "            1 argument(s) required, 0 supplied." ∷ "        <literal_block xml:space=\"preserve\"> 1" ∷ "            .. class::"
+        ∷ "            " ∷ "               a" ∷ []) }
+{}
+
 /// Directives of the wider profile (Directives, 'Rubric', 'Parsed Literal Block', 'Raw Data Pass-Through', 'Including an External Document
 /// Fragment', 'Compound Paragraph', 'Container', 'Line Block', 'Math'), and a blank line after the first line of a directive (Markup Specification, 'Directives').
 pub fn wider()

@@ -90,7 +90,7 @@ def faults(text: Text) -> Iterator[Fault]:
 
 
 def _document(text: Text) -> list[Any]:
-    """The tree of a text. It has at most 1,350 levels."""
+    """The tree of a text. It has at most 1,550 levels."""
     limit = sys.getrecursionlimit()
     sys.setrecursionlimit(limit + 5000)
     try:

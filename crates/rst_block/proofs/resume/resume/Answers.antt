@@ -15,7 +15,7 @@ use Rattle.rst_block_state.proofs.WaitingLooks.{resumed as waited}
 use Rattle.rst_block_body.proofs.QuoteSteps.{after_more}
 use Rattle.rst_block_body.proofs.QuotesPaid.{more_paid, nodes_paid, item_paid}
 use Rattle.rst_block.proofs.Waiting.{nodes_given, item_given}
-use Rattle.rst_block.proofs.resume.resume.Goals.{in-ListItem+in_ok-item-in-ListItem+in_ok-push_item-in-ListItem, in-ListedBody+in_ok-listed_item-in-ListedBody+in_ok-push_item-in-ListedBody, in-Element+in_ok-completed-in-Element+in_ok-push_marked-in-Element, in-Quotes+in_ok-finished_quotes-in-Quotes+in_ok-append_marked-in-Quotes, in-Replacement+in_ok-finished_replacement-in-Replacement+in_ok-push-in-Replacement}
+use Rattle.rst_block.proofs.resume.resume.Goals.{in-ListItem+in_ok-item-in-ListItem+in_ok-push_item-in-ListItem, in-ListedBody+in_ok-listed_item-in-ListedBody+in_ok-push_item-in-ListedBody, in-Element+in_ok-completed-in-Element+in_ok-push_marked-in-Element, in-Quotes+in_ok-finished_quotes-in-Quotes+in_ok-append_marked-in-Quotes, in-Classes+in_ok-finished_classes-in-Classes+in_ok-append_marked-in-Classes+in-Element-1, in-Classes+in_ok-finished_classes-in-Classes+in_ok-append_marked-in-Classes+in-Text+in-Long-1, in-Classes+in_ok-finished_classes-in-Classes+in_ok-append_marked-in-Classes+in-Text+in-Short-1, in-Replacement+in_ok-finished_replacement-in-Replacement+in_ok-push-in-Replacement}
 use Rattle.rst_block.proofs.resume.resume.Goals as goal
 
 pub returns-in-Quote-clause-goes : goal.returns-in-Quote-clause-goes
@@ -93,6 +93,27 @@ returns-clause-goes c =
             read = nodes_given B n w.in_ok-append_marked-in-Quotes.ensures.more w.in_ok-finished_quotes-in-Quotes.ensures w.level-is
                 ∙ ap (λ waits. resumed old B waits ns n) (sym w.in-Quotes.is);
             paid = nodes_paid B c.args.waits looks (subst WaitsForOne (sym w.in-Quotes.is) tt) w.in_ok-append_marked-in-Quotes.ensures.more w.level-is;
+          }
+      | in-Classes+in_ok-finished_classes-in-Classes+in_ok-append_marked-in-Classes+in-Element-1 w ↦
+          record {
+            kept = rw w.level-is w.in_ok-append_marked-in-Classes.ensures.more.depth;
+            read = nodes_given B n w.in_ok-append_marked-in-Classes.ensures.more w.in_ok-finished_classes-in-Classes.ensures w.level-is
+                ∙ ap (λ waits. resumed old B waits ns n) (sym w.in-Classes.is);
+            paid = nodes_paid B c.args.waits looks (subst WaitsForOne (sym w.in-Classes.is) tt) w.in_ok-append_marked-in-Classes.ensures.more w.level-is;
+          }
+      | in-Classes+in_ok-finished_classes-in-Classes+in_ok-append_marked-in-Classes+in-Text+in-Long-1 w ↦
+          record {
+            kept = rw w.level-is w.in_ok-append_marked-in-Classes.ensures.more.depth;
+            read = nodes_given B n w.in_ok-append_marked-in-Classes.ensures.more w.in_ok-finished_classes-in-Classes.ensures w.level-is
+                ∙ ap (λ waits. resumed old B waits ns n) (sym w.in-Classes.is);
+            paid = nodes_paid B c.args.waits looks (subst WaitsForOne (sym w.in-Classes.is) tt) w.in_ok-append_marked-in-Classes.ensures.more w.level-is;
+          }
+      | in-Classes+in_ok-finished_classes-in-Classes+in_ok-append_marked-in-Classes+in-Text+in-Short-1 w ↦
+          record {
+            kept = rw w.level-is w.in_ok-append_marked-in-Classes.ensures.more.depth;
+            read = nodes_given B n w.in_ok-append_marked-in-Classes.ensures.more w.in_ok-finished_classes-in-Classes.ensures w.level-is
+                ∙ ap (λ waits. resumed old B waits ns n) (sym w.in-Classes.is);
+            paid = nodes_paid B c.args.waits looks (subst WaitsForOne (sym w.in-Classes.is) tt) w.in_ok-append_marked-in-Classes.ensures.more w.level-is;
           }
       | in-Replacement+in_ok-finished_replacement-in-Replacement+in_ok-push-in-Replacement w ↦
           let node_of : OpenReplacement → List Node = λ o. replacement (string_bytes o.name) o.line (string_bytes o.source) (first_paragraph ns) ∷ [] in

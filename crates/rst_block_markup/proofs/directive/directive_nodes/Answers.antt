@@ -42,5 +42,5 @@ pub returns-in_default : goal.returns-in_default
 returns-in_default c =
     let f = c.args.found.now in
     let blocks : has_blocks f.kind.content ≡ true = sym c.has_blocks.ensures ∙ (let p : c.has_blocks.result ≡ true = search rules in p) in
-    opened_read f nothing (c.plain_block.ensures c.args.pass.now) blocks refl
+    opened_read f nothing c.plain_block.ensures blocks refl
     (λ d line lines. plain_opened f.argument c.in_default.not-Title c.in_default.not-Uri d (block_of c.args.view.now) line (read_of_directive f) lines) (omega arith)

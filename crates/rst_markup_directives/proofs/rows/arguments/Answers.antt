@@ -15,4 +15,5 @@ returns c = record {
   with_classes = refl;
   with_a_title_or_not = refl;
   no_classes = refl;
+  classes_without_options = refl;
 }

@@ -14,6 +14,7 @@ returns c = record {
   case_of_letters = refl;
   further = refl;
   sidebar = refl;
+  contents = refl;
   quotes = refl;
   quote_classes = refl;
   without_their_part = refl;

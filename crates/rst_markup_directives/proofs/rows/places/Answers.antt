@@ -20,5 +20,7 @@ returns c = record {
   raw_file = refl;
   lone_subtitle = refl;
   sidebar = refl;
+  contents = refl;
+  content_of_contents = refl;
   two_paragraphs = refl;
 }

@@ -1,8 +1,8 @@
-use Rattle.std.proofs.Common.{rules, List, ℕ, ◌≤◌, arith, ◌+◌, ◌∙◌}
+use Rattle.std.proofs.Common.{rules, List, [], ◌∷◌, ℕ, ◌≤◌, ◌*◌, arith, ◌+◌, append_assoc, replicate}
 use Rattle.rst_tree.specs.Nodes.{node_height}
-use Rattle.rst_tree.specs.Print.{deeper_level, printed_node}
+use Rattle.rst_tree.specs.Print.{deeper_level, printed_node, start_tag}
 use Rattle.rst_tree.specs.PrintedAttributes.{given_source, printed_attrs, with_printed_attrs}
-use Rattle.rst_tree.proofs.PrintedParts.{child_height, tag_line}
+use Rattle.rst_tree.proofs.PrintedParts.{child_height}
 use Rattle.rst_tree.proofs.PrintedAttributeParts.{element-with-attrs, words-with-attrs}
 use Rattle.rst_tree.proofs.Sending.{◌▸◌, Sends-as, Sends-item, Sends-none}
 use Rattle.rst_tree.specs.declared.node.Node.{Node}
@@ -23,14 +23,15 @@ loop-child-preserved g t c =
     elim c.match-child.branch [
       | in-Text-child w ↦ rw (w.out-is, w.page-is)
           (Sends-item printed _ c.loop-child.child-index _ c.child-item.is (omega arith) c.loop-child.invariant
-          (Sends-as (rw c.saturating_add-inner.ensures at w.put_text.ensures) (words-with-attrs (given_source c.args.source) (deeper_level c.args.level) c.child-item.result w.in-Text-child.text _ w.in-Text-child.is w.as_bytes-in-Text-child.ensures)))
+          (Sends-as (rw c.saturating_add-inner.ensures at w.put_text.ensures) (words-with-attrs (given_source c.args.source) (deeper_level c.args.level) c.child-item.result w.in-Text-child.text _ w.in-Text-child.is w.as_bytes.ensures)))
       | in-Element-child w ↦ rw (w.out-is, w.page-is)
           (Sends-item printed _ c.loop-child.child-index _ c.child-item.is (omega arith) c.loop-child.invariant (rw c.saturating_add-inner.ensures at w.put_node.ensures))
     ]
 
 pub returns-after-loop-child : goal.returns-after-loop-child
 returns-after-loop-child g t c =
-    Sends-as (Sends-as (c.put_indented.ensures ▸ c.put_printed_attrs.ensures ▸ c.put.ensures) (tag_line c.args.level c.in-Element.tag (printed_attrs (given_source c.args.source) c.in-Element.tag c.in-Element.attrs c.in-Element.line) c.as_bytes.result.now (c.as_bytes.ensures.value ∙ c.name.ensures)) ▸ c.loop-child.invariant)
+    let tag = start_tag c.in-Element.tag (printed_attrs (given_source c.args.source) c.in-Element.tag c.in-Element.attrs c.in-Element.line) in
+    Sends-as (Sends-as c.put_tag.ensures (append_assoc (replicate (4 * c.args.level) 32) tag (10 ∷ [])) ▸ c.loop-child.invariant)
     (element-with-attrs (given_source c.args.source) c.args.level c.args.node.now c.in-Element.tag c.in-Element.attrs c.in-Element.children c.in-Element.line c.as_slice-child-items.result.now c.loop-child.child-index
     c.in-Element.is c.as_slice-child-items.ensures c.loop-child-test.false)
 

@@ -9,6 +9,8 @@ returns-then-not-failed g c =
     let indent : List ℕ = replicate (4 * c.args.level) 32 in
     let first = c.args.first.now in
     let second = c.args.second.now in
+    let third = c.args.third.now in
     Sends-gathered _ _ _ _ (sym c.failed.ensures ∙ c.if-not-failed.true)
-    (c.gather_indented.ensures.page_bytes ∙ ap (λ l. l ++ second) (append_assoc before indent first) ∙ append_assoc before (indent ++ first) second)
+    (c.gather_indented.ensures.page_bytes ∙ ap (λ l. (l ++ second) ++ third) (append_assoc before indent first) ∙ ap (λ l. l ++ third) (append_assoc before (indent ++ first) second)
+    ∙ append_assoc before ((indent ++ first) ++ second) third)
     c.gather_indented.ensures.taken

@@ -29,7 +29,7 @@ returns c = λ r h.
           let is = entered old.definitions c.insert.new.self (string_bytes c.in_ok-name.name) (Some c.len-serial.result) c.in_ok-before.ensures.updates other in
           let was = h.definitions other in
           cc;
-      standings = c.in_ok-push-2.ensures.items ∙ ap₂ (λ ss n. ss ++ standing n None false ∷ []) lost number;
+      standings = c.in_ok-push-2.ensures.items ∙ ap₂ (λ ss n. ss ++ standing n None false false ∷ []) lost number;
       numbers = h.numbers;
       messages = h.messages;
       name_messages = c.in_ok-push.ensures.items ∙ ap₂ (λ ms m. ms ++ m ∷ []) h.name_messages (made ∙ ap (option_map (λ (n : ℕ). duplicate_definition new)) before);

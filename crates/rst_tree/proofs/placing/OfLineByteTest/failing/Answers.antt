@@ -3,7 +3,7 @@ use Rattle.std.proofs.lemmas.Simd.{zip2_splat}
 use Rattle.rst_text.proofs.LaneLemmas.{masked}
 use Rattle.rst_text.specs.Runs.{fails_test}
 use Rattle.rst_tree.specs.Print.{is_of_line}
-use Rattle.rst_tree.proofs.output.OfLineByteTest.failing.Goals as goal
+use Rattle.rst_tree.proofs.placing.OfLineByteTest.failing.Goals as goal
 
 pub returns : goal.returns
 returns c =

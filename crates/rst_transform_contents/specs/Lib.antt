@@ -1,0 +1,5 @@
+pub mod Contents
+pub mod Entries
+pub mod Outline
+pub mod Title
+pub mod Written

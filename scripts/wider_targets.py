@@ -1,0 +1,89 @@
+"""Worked examples of the wider profile: targets. scripts/wider.py joins them."""
+
+# A name, a text, and its tree and messages.
+TARGETS = [
+    (
+        "a target before a message",
+        "See here_.\n\n.. _here:\n\n.. foo:: x\n\nText.\n",
+        """\
+<document source="<stdin>">
+    <paragraph>
+        See 
+        <reference name="here" refid="here">
+            here
+        .
+    <target refid="here">
+    <system_message level="3" line="5" source="<stdin>" type="ERROR">
+        <paragraph>
+            Unknown directive type "foo".
+        <literal_block xml:space="preserve">
+            .. foo:: x
+    <paragraph ids="here" names="here">
+        Text.
+""",
+        """\
+<stdin>:5: (ERROR/3) Unknown directive type "foo".
+""",
+    ),
+    (
+        "targets before messages and what keeps them out",
+        "- a\n\n  .. _one:\n\n  .. foo:: x\n\n- b\n\n.. _two:\n\n----\n\n.. _three:\n\n.. [1] c\n\none_ two_ three_\n",
+        """\
+<document source="<stdin>">
+    <bullet_list bullet="-">
+        <list_item>
+            <paragraph>
+                a
+            <target refid="one">
+            <system_message level="3" line="5" source="<stdin>" type="ERROR">
+                <paragraph>
+                    Unknown directive type "foo".
+                <literal_block xml:space="preserve">
+                    .. foo:: x
+        <list_item ids="one" names="one">
+            <paragraph>
+                b
+    <target refid="two">
+    <transition ids="two" names="two">
+    <target ids="three" names="three">
+    <footnote ids="footnote-1" names="1">
+        <label>
+            1
+        <paragraph>
+            c
+    <paragraph>
+        <reference name="one" refid="one">
+            one
+         
+        <reference name="two" refid="two">
+            two
+         
+        <reference name="three" refid="three">
+            three
+""",
+        """\
+<stdin>:5: (ERROR/3) Unknown directive type "foo".
+""",
+    ),
+    (
+        "a name that two targets have",
+        "One.\n\n.. _t:\n\nTwo.\n\n.. _t:\n\nThree.\n",
+        """\
+<document source="<stdin>">
+    <paragraph>
+        One.
+    <target dupnames="t" refid="t">
+    <paragraph ids="t">
+        Two.
+    <system_message backrefs="t-1" level="2" line="7" source="<stdin>" type="WARNING">
+        <paragraph>
+            Duplicate explicit target name: "t".
+    <target dupnames="t" refid="t-1">
+    <paragraph ids="t-1">
+        Three.
+""",
+        """\
+<stdin>:7: (WARNING/2) Duplicate explicit target name: "t".
+""",
+    ),
+]
