@@ -4,13 +4,14 @@ The trees and messages are those of Docutils 0.19 with `--syntax-highlight=none 
 directives, and on a file that isn't read, have no source text on standard error. The texts of SAME are read alike by both profiles.
 """
 
+from wider_contents import CONTENTS
 from wider_directives import DIRECTIVES
 from wider_fields import FIELDS
 from wider_inline import INLINE
 from wider_targets import TARGETS
 
 # A name, a text, and its tree and messages under the wider profile; under the other one they differ.
-WIDER = [*INLINE, *DIRECTIVES, *FIELDS, *TARGETS]
+WIDER = [*INLINE, *DIRECTIVES, *CONTENTS, *FIELDS, *TARGETS]
 
 SAME = [
     ("a backquote after a space", "x\n\n:a `b` c: d\n"),

@@ -27,11 +27,6 @@ use Rattle.rst_block_body.proofs.TextsPaid.{more_items}
 
 -- ---- a line of text
 
--- the form of the text at a line, as it was found
-pub form_here : (B : Block) (i : ℕ) {t u : List ℕ} {found form : TextForm} → t ≡ first_text (drop i B) → u ≡ first_text (drop 1 (drop i B)) → found ≡ text_form t u → found ≡ form
-    → text_form (first_text (drop i B)) (next_text (drop i B)) ≡ form
-form_here B i {t} {u} e f h is = sym (h ∙ ap (λ x. text_form x u) e ∙ ap (text_form (first_text (drop i B))) f) ∙ is
-
 -- a text that is no term stands alone
 pub alone_form : (form : TextForm) (titles : Bool) (infos : List Node) (X : Block) → form ≢ Definition → IsAlone (text_by form titles infos X)
 alone_form Paragraph titles infos X h = tt

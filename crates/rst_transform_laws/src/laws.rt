@@ -31,8 +31,7 @@ pub fn names_add_little()
         → AreFlat h (document_in document).children → AreFlat (h + 3) (document_in (registration messages document).root).children }
 {}
 
-/// Classes by directives add at most one level, targets and titles none, transitions two, beside which the messages on them stand, and the last section
-/// has four.
+/// Classes by directives add at most one level, targets and titles none, transitions with the messages on them two, and the last section has four.
 pub fn structure_adds_little()
     ensures classes { (directives : Bool) (document : Document) → height (with_classes directives document).children ≤ height document.children + 1 }
     ensures targets { (unmarked : Bool) (document : Document) (known : Known) → height ((with_targets unmarked document known).0).children ≤ height document.children }
