@@ -5,7 +5,7 @@ use Rattle.std.specs.Prelude.{flat_map, nat_le, slice_set}
 use Rattle.std.specs.Char.{is_whitespace}
 use Rattle.std.specs.List.{range_with_len, AllByRecursion}
 use Rattle.std.specs.Str.{drop_trailing_whitespace}
-use Rattle.rst_text.specs.Block.{Line, Block, shorten, first_number}
+use Rattle.rst_text.specs.Block.{Line, Block, shorten, first_number, first_parts}
 use Rattle.rst_text.specs.Extent.{least_indent}
 use Rattle.rst_text.specs.Places.{first_from}
 use Rattle.rst_markup_blocks.specs.TableRows.{grid_bottom, grid_size, head_border, simple_size}
@@ -144,10 +144,10 @@ grid_by_free line i B None free =
     let T : Grid = rows_of B in
     tiled_free line i (head_of T) (with_dashes T (head_of T)) (dashes_free_in B (head_of T) refl free)
 
-simple_by_free : (line i : ℕ) (head : Option ℕ) (T : Grid) (fault : Option TableDetail) → AreRowsFree T → AllByRecursion IsWithoutCode (cell_blocks (simple_by line i head T fault))
-simple_by_free line i head T (Some detail) free = tt
-simple_by_free line i head T None free =
-    table_free (map (row_entries T) (simple_rows T)) (all_made (AllByRecursion IsCellFree) (row_entries T) (simple_rows T) (λ r.
+simple_by_free : (unmarked : Bool) (line i : ℕ) (head : Option ℕ) (T : Grid) (fault : Option TableDetail) → AreRowsFree T → AllByRecursion IsWithoutCode (cell_blocks (simple_by unmarked line i head T fault))
+simple_by_free unmarked line i head T (Some detail) free = tt
+simple_by_free unmarked line i head T None free =
+    table_free (map (row_entries T) (simple_rows unmarked T)) (all_made (AllByRecursion IsCellFree) (row_entries T) (simple_rows unmarked T) (λ r.
     all_made IsCellFree (entry (lines_of_row T r) (row_spans T r)) _ (λ k.
     cell_free (span_of (row_spans T r) k).from (span_right (row_spans T r) k) (lines_of_row T r) (all_take IsRowFree (r.to - r.from) (drop r.from T) (all_drop IsRowFree r.from T free)))))
 
@@ -167,4 +167,4 @@ pub simple_cells_free : (B : Block) (i : ℕ) → IsWithoutCode B → AllByRecur
 simple_cells_free B i free =
     let X : Block = drop i B in
     let T : Grid = rows_of (take (simple_size X) X) in
-    simple_by_free (first_number X) i (head_border X) T (simple_fault X T) (rows_free (take (simple_size X) X) (lines_free (simple_size X) i B free))
+    simple_by_free (first_parts X).unmarked (first_number X) i (head_border X) T (simple_fault X T) (rows_free (take (simple_size X) X) (lines_free (simple_size X) i B free))

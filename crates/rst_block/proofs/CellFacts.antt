@@ -2,7 +2,7 @@
 use Rattle.std.proofs.Common.{◌≡◌, ℕ, ◌+◌, ◌-◌, true, List, [], ◌∷◌, ◌++◌, map, filter, take, drop, length, Option, None, Some, refl}
 use Rattle.std.specs.Prelude.{flat_map, ◌==◌}
 use Rattle.std.specs.List.{range_with_len, AllByRecursion}
-use Rattle.rst_text.specs.Block.{Block, first_number}
+use Rattle.rst_text.specs.Block.{Block, first_number, first_parts}
 use Rattle.rst_text.specs.Extent.{least_indent}
 use Rattle.rst_text.proofs.LineTexts.{ends_white-trimmed}
 use Rattle.rst_markup_blocks.specs.TableRows.{grid_size, grid_bottom, simple_size, head_border}
@@ -90,12 +90,12 @@ simple_trimmed B i = by (simple_fault X T)
     T : Grid
     T = rows_of (take (simple_size X) X)
 
-    by : (o : Option TableDetail) → AreTrimmed (cell_blocks (simple_by (first_number X) i (head_border X) T o))
+    by : (o : Option TableDetail) → AreTrimmed (cell_blocks (simple_by (first_parts X).unmarked (first_number X) i (head_border X) T o))
     by (Some detail) = tt
     by None =
         rows_trimmed (row_entries T)
         (λ r. let spans = row_spans T r in row_trimmed (entry (lines_of_row T r) spans) (λ k. block_trimmed (span_of spans k).from (span_right spans k) (lines_of_row T r)) (range_with_len 0 (length spans)))
-        (simple_rows T)
+        (simple_rows (first_parts X).unmarked T)
 
 -- ---- the cells of a block
 

@@ -1,7 +1,7 @@
 -- A table at the next line of a block: its cells are read next, or it is malformed and its message takes its place.
 use Rattle.std.proofs.Common.{◌≡◌, ℕ, ◌+◌, ◌<◌, ◌≤◌, List, [], ◌∷◌, ◌++◌, length, take, drop, map, Option, Some, None, arith, refl, sym, ◌∙◌, ap, inl, inr}
 use Rattle.std.proofs.lemmas.List.{map-append}
-use Rattle.rst_text.specs.Block.{Block, first_number}
+use Rattle.rst_text.specs.Block.{Block, first_number, first_parts}
 use Rattle.rst_tree.specs.declared.node.Node.{Node}
 use Rattle.rst_tree.specs.declared.note.Level.TheVariants.{Error}
 use Rattle.rst_markup_blocks.specs.Begun.{IsBegun}
@@ -67,7 +67,7 @@ simple_end : (B : Block) (i : ℕ) → end_of (simple_table B i) ≡ i + simple_
 simple_end B i =
     let X : Block = drop i B in
     let T : Grid = rows_of (take (simple_size X) X) in
-    simple_by_end (first_number X) i (head_border X) T (simple_fault X T) ∙ ap (λ n. i + n) (rows-size (simple_size X) X (simple_size_le X))
+    simple_by_end (first_parts X).unmarked (first_number X) i (head_border X) T (simple_fault X T) ∙ ap (λ n. i + n) (rows-size (simple_size X) X (simple_size_le X))
 
 -- ---- the construct
 

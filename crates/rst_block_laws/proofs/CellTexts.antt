@@ -5,7 +5,7 @@ use Rattle.std.specs.Char.{is_whitespace}
 use Rattle.std.specs.List.{AllByRecursion}
 use Rattle.std.specs.Str.{drop_trailing_whitespace}
 use Rattle.std.proofs.lemmas.Bool.{cond_both}
-use Rattle.rst_text.specs.Block.{Block, first_number, shorten}
+use Rattle.rst_text.specs.Block.{Block, first_number, first_parts, shorten}
 use Rattle.rst_text.specs.Characters.{Text}
 use Rattle.rst_markup_blocks.specs.TableRows.{grid_bottom, grid_size, head_border, simple_size}
 use Rattle.rst_markup_tables.specs.Cells.{cell_block, cell_line, characters, cut_places}
@@ -68,15 +68,15 @@ module _ (P : ℕ → Bool) where
 
   -- ---- simple tables
 
-  simple_by_kept : (line i : ℕ) (head : Option ℕ) (G : Grid) (fault : Option TableDetail) → GridKept G → CellsKept (simple_by line i head G fault)
-  simple_by_kept line i head G (Some detail) h = tt
-  simple_by_kept line i head G None h = all_made RowKept _ _ (λ r. all_made _ _ _ (λ k. let span = span_of (row_spans G r) k in cell_kept span.from (span_right (row_spans G r) k) _ (all_range _ G r.from r.to h)))
+  simple_by_kept : (unmarked : Bool) (line i : ℕ) (head : Option ℕ) (G : Grid) (fault : Option TableDetail) → GridKept G → CellsKept (simple_by unmarked line i head G fault)
+  simple_by_kept unmarked line i head G (Some detail) h = tt
+  simple_by_kept unmarked line i head G None h = all_made RowKept _ _ (λ r. all_made _ _ _ (λ k. let span = span_of (row_spans G r) k in cell_kept span.from (span_right (row_spans G r) k) _ (all_range _ G r.from r.to h)))
 
   pub simple_kept : (B : Block) (i : ℕ) → BlockKept P B → CellsKept (simple_table B i)
   simple_kept B i h =
       let X : Block = drop i B in
       let G : Grid = rows_of (take (simple_size X) X) in
-      simple_by_kept (first_number X) i (head_border X) G (simple_fault X G) (rows_kept (simple_size X) i B h)
+      simple_by_kept (first_parts X).unmarked (first_number X) i (head_border X) G (simple_fault X G) (rows_kept (simple_size X) i B h)
 
   -- ---- grid tables
 

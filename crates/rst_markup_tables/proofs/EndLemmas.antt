@@ -1,7 +1,7 @@
 -- Where tables end.
-use Rattle.std.proofs.Common.{◌≡◌, ℕ, ◌+◌, ◌*◌, ◌≤◌, List, length, drop, take, length-take, refl, sym, ap, ◌∙◌, arith, Option, Some, None}
+use Rattle.std.proofs.Common.{◌≡◌, ℕ, ◌+◌, ◌*◌, ◌≤◌, Bool, List, length, drop, take, length-take, refl, sym, ap, ◌∙◌, arith, Option, Some, None}
 use Rattle.std.proofs.lemmas.List.{length-map}
-use Rattle.rst_text.specs.Block.{Block, first_number}
+use Rattle.rst_text.specs.Block.{Block, first_number, first_parts}
 use Rattle.std.specs.Prelude.{unwrap_or, IfNone}
 use Rattle.std.specs.Option.{option_or}
 use Rattle.rst_markup_blocks.specs.TableRows.{lines_through, grid_bottom, grid_size, head_border, simple_bottom, simple_size, simple_scan}
@@ -26,9 +26,9 @@ rows_end line i T None r h = ap end_of h.2 ∙ by h.0 ∙ ap (λ n. i + n) (dash
     by None = refl
     by (Some rs) = refl
 
-pub simple_by_end : (line i : ℕ) (head : Option ℕ) (T : Grid) (fault : Option TableDetail) → end_of (simple_by line i head T fault) ≡ i + length T
-simple_by_end line i head T (Some detail) = refl
-simple_by_end line i head T None = refl
+pub simple_by_end : (unmarked : Bool) (line i : ℕ) (head : Option ℕ) (T : Grid) (fault : Option TableDetail) → end_of (simple_by unmarked line i head T fault) ≡ i + length T
+simple_by_end unmarked line i head T (Some detail) = refl
+simple_by_end unmarked line i head T None = refl
 
 -- how many rows the first n lines of a block are
 pub rows-size : (n : ℕ) (X : Block) → n ≤ length X → length (rows_of (take n X)) ≡ n
@@ -43,7 +43,7 @@ pub simple_end : (B : Block) (i : ℕ) → end_of (simple_table B i) ≡ i + sim
 simple_end B i =
     let X : Block = drop i B in
     let T : Grid = rows_of (take (simple_size X) X) in
-    simple_by_end (first_number X) i (head_border X) T (simple_fault X T) ∙ ap (λ n. i + n) (rows-size (simple_size X) X (simple_size_le X))
+    simple_by_end (first_parts X).unmarked (first_number X) i (head_border X) T (simple_fault X T) ∙ ap (λ n. i + n) (rows-size (simple_size X) X (simple_size_le X))
 
 -- how many lines a simple table has, by its borders
 pub table-size : (X : Block) (n all : ℕ) (head bottom : Option ℕ) → n ≡ lines_through all (option_or bottom head) → all ≡ length X → head ≡ head_border X → bottom ≡ simple_bottom X → n ≡ simple_size X

@@ -1,5 +1,5 @@
 -- Simple tables.
-use Rattle.std.proofs.Common.{◌≡◌, ℕ, ◌+◌, ◌-◌, ◌<◌, ◌≤◌, true, false, cond, List, [], ◌∷◌, ◌++◌, drop, append_assoc, option_map, map, filter, refl, sym, ap, ap₂, ◌∙◌, arith, Option, Some, None}
+use Rattle.std.proofs.Common.{◌≡◌, ℕ, ◌+◌, ◌-◌, ◌<◌, ◌≤◌, Bool, true, false, cond, List, [], ◌∷◌, ◌++◌, drop, append_assoc, option_map, map, filter, refl, sym, ap, ap₂, ◌∙◌, arith, Option, Some, None}
 use Rattle.std.proofs.lemmas.Bool.{ne_eqb}
 use Rattle.std.specs.Prelude.{option_and_then, flat_map}
 use Rattle.std.specs.List.{range_with_len}
@@ -37,11 +37,12 @@ pub rows_left-more : (T : Grid) (from to rule : ℕ) → to < rule → begins_ro
 rows_left-more T from to rule h e = ap (λ l. map (row_between rule) (neighbours (from ∷ (l ++ rule ∷ [])))) (all_from-more (begins_row T) to rule h e)
 
 -- the rows of the lines from `low` on, cut at rules
-abbrev pub sections_left : Grid → ℕ → List ℕ → List RowLines
-sections_left T low rules = flat_map (λ (p : ℕ × ℕ). section_rows T (p.0 + 1) p.1) (neighbours ((low - 1) ∷ rules))
+abbrev pub sections_left : Bool → Grid → ℕ → List ℕ → List RowLines
+sections_left unmarked T low rules = flat_map (λ (p : ℕ × ℕ). section_rows unmarked T (p.0 + 1) p.1) (neighbours ((low - 1) ∷ rules))
 
-pub sections_left-more : (T : Grid) (low rule : ℕ) (rules : List ℕ) → 1 ≤ low → sections_left T low (rule ∷ rules) ≡ section_rows T low rule ++ sections_left T (rule + 1) rules
-sections_left-more T low rule rules h =
+pub sections_left-more : (unmarked : Bool) (T : Grid) (low rule : ℕ) (rules : List ℕ) → 1 ≤ low
+    → sections_left unmarked T low (rule ∷ rules) ≡ section_rows unmarked T low rule ++ sections_left unmarked T (rule + 1) rules
+sections_left-more unmarked T low rule rules h =
     let before : low - 1 + 1 ≡ low = omega arith in
     let after_rule : rule ≡ rule + 1 - 1 = omega arith in
-    ap₂ (λ n m. section_rows T n rule ++ flat_map (λ (p : ℕ × ℕ). section_rows T (p.0 + 1) p.1) (neighbours (m ∷ rules))) before after_rule
+    ap₂ (λ n m. section_rows unmarked T n rule ++ flat_map (λ (p : ℕ × ℕ). section_rows unmarked T (p.0 + 1) p.1) (neighbours (m ∷ rules))) before after_rule

@@ -1,15 +1,16 @@
 -- Tables that are written out, for worked examples. No rule of markup.
 use Prim.Native.String.{String}
-use Rattle.std.specs.Prelude.{◌≡◌, ℕ, ◌+◌, List, [], ◌∷◌, codes}
-use Rattle.rst_settings.specs.Parts.{no_parts}
-use Rattle.rst_text.specs.Block.{Block}
+use Rattle.std.specs.Prelude.{◌≡◌, ℕ, ◌+◌, List, [], ◌∷◌, map, codes}
+use Rattle.rst_settings.specs.Parts.{all_parts, no_parts}
+use Rattle.rst_text.specs.Block.{Block, Line}
 use Rattle.rst_text.specs.Written.{block}
 use Rattle.rst_markup_tables.specs.GridTable.{malformed}
 use Rattle.rst_markup_tables.specs.SimpleTable.{simple_table}
 use Rattle.rst_markup_tables.specs.Tiling.{grid_table}
 use Rattle.rst_markup_tables.specs.declared.results.Cell.{Cell}
 use Rattle.rst_markup_tables.specs.declared.results.TableDetail.{TableDetail}
-use Rattle.rst_markup_tables.specs.declared.results.TableResult.TheVariants.{Table}
+use Rattle.rst_markup_tables.specs.declared.results.TableResult.{TableResult}
+use Rattle.rst_markup_tables.specs.declared.results.TableResult.TheVariants.{Table, Malformed}
 
 -- lines with numbers from n on
 abbrev pub numbered : ℕ → List String → Block
@@ -39,3 +40,16 @@ BreaksGrid text detail n = grid_table (block text) 0 ≡ malformed 1 0 n detail
 -- the same of a simple table
 abbrev pub BreaksSimple : List String → TableDetail → ℕ → Type 0
 BreaksSimple text detail n = simple_table (block text) 0 ≡ malformed 1 0 n detail
+
+-- lines in which the parts of the wider profile are on
+abbrev pub wider : List String → Block
+wider texts = map (λ (l : Line). record l { parts = all_parts }) (block texts)
+
+-- the texts in the cells of a table, row after row
+abbrev pub cell_texts : TableResult → List (List (List (List ℕ)))
+cell_texts (Table widths head rows n) = map (map (λ (c : Cell). map (λ (l : Line). l.text) c.lines)) rows
+cell_texts (Malformed n note) = []
+
+-- by the wider profile, lines make a simple table with these texts in its cells
+abbrev pub HoldsWider : List String → List (List (List String)) → Type 0
+HoldsWider text rows = cell_texts (simple_table (wider text) 0) ≡ map (map (map codes)) rows

@@ -1,10 +1,10 @@
 -- Simple tables: what can be wrong with their lines, and what is in them (Markup Specification, 'Simple Tables'). Which
 -- lines they are is determined by the row of the table of constructs.
-use Rattle.std.specs.Prelude.{ℕ, ◌+◌, ◌-◌, ◌≤◌, max, Bool, false, not, ◌&&◌, ◌||◌, ◌==◌, nat_le, List, [], ◌∷◌, ◌++◌, Option, Some, None, is_some, if◌then◌else◌, get_or, length, take, drop, slice_range, map, fold, count_by, unwrap_or, option_map, option_and_then, flat_map, filter, find, position}
+use Rattle.std.specs.Prelude.{ℕ, ◌+◌, ◌-◌, ◌≤◌, max, Bool, true, false, not, ◌&&◌, ◌||◌, ◌==◌, nat_le, List, [], ◌∷◌, ◌++◌, Option, Some, None, is_some, if◌then◌else◌, get_or, length, take, drop, slice_range, map, fold, count_by, unwrap_or, option_map, option_and_then, flat_map, filter, find, position}
 use Rattle.std.specs.Char.{is_whitespace}
 use Rattle.std.specs.List.{list_all, range_with_len}
 use Rattle.std.specs.Option.{option_or}
-use Rattle.rst_text.specs.Block.{Block, first_number}
+use Rattle.rst_text.specs.Block.{Block, first_number, first_parts}
 use Rattle.rst_markup_tables.specs.Places.{Grid, rows_of, row_at, consists_of, mark_at}
 use Rattle.rst_text.specs.Places.{first_from}
 use Rattle.rst_markup_blocks.specs.TableRows.{is_as_long, head_border, simple_bottom, simple_size}
@@ -123,8 +123,8 @@ begins_row T k = let column = get_or (columns_of T) 0 no_span in not (is_clear c
 abbrev pub row_lines : ℕ → ℕ → ℕ → RowLines
 row_lines from to rule = record { from = from; to = to; rule = rule }
 
--- Where the rows begin in the lines before a rule, the first of which that isn't blank is line `start`: there, and at each
--- line after it whose first column isn't blank.
+-- Where the rows begin in the lines before a rule, the first of them at line `start`: there, and at each line after it whose
+-- first column isn't blank.
 abbrev pub row_places : Grid → ℕ → ℕ → List ℕ
 row_places T start rule = start ∷ filter (begins_row T) (range_with_len (start + 1) (rule - (start + 1)))
 
@@ -133,22 +133,28 @@ row_places T start rule = start ∷ filter (begins_row T) (range_with_len (start
 abbrev pub row_between : ℕ → ℕ × ℕ → RowLines
 row_between rule p = row_lines p.0 p.1 (if p.1 == rule then rule else 0)
 
--- the rows before a rule, each from where it begins up to the next, from the first line that isn't blank, if there is one
+-- the rows before a rule, each from where it begins up to the next, if there is a first one
 abbrev pub rows_from : Grid → ℕ → Option ℕ → List RowLines
 rows_from T rule None = []
 rows_from T rule (Some start) = map (row_between rule) (neighbours (row_places T start rule ++ rule ∷ []))
 
--- the rows of the lines from `low` on before a rule, blank lines at their front dropped
-abbrev pub section_rows : Grid → ℕ → ℕ → List RowLines
-section_rows T low rule = rows_from T rule (first_from (λ k. not (is_empty_row (row_at T k))) low (rule - low))
+-- Where the first row of the lines from `low` on before a rule begins: at the first line that isn't blank, if there is one. Under the part `unmarked`, it
+-- begins at the first line whose first column isn't blank, and the lines before that are in no row; without one, it is a row of no lines, at the rule.
+abbrev pub first_row : Bool → Grid → ℕ → ℕ → Option ℕ
+first_row true T low rule = Some (unwrap_or (first_from (begins_row T) low (rule - low)) rule)
+first_row false T low rule = first_from (λ k. not (is_empty_row (row_at T k))) low (rule - low)
+
+-- the rows of the lines from `low` on before a rule
+abbrev pub section_rows : Bool → Grid → ℕ → ℕ → List RowLines
+section_rows unmarked T low rule = rows_from T rule (first_row unmarked T low rule)
 
 -- the rows of the lines between the top border, line 0, and the first of some rules, and between each of these and the next
-abbrev pub sections : Grid → List ℕ → List RowLines
-sections T rules = flat_map (λ (p : ℕ × ℕ). section_rows T (p.0 + 1) p.1) (neighbours (0 ∷ rules))
+abbrev pub sections : Bool → Grid → List ℕ → List RowLines
+sections unmarked T rules = flat_map (λ (p : ℕ × ℕ). section_rows unmarked T (p.0 + 1) p.1) (neighbours (0 ∷ rules))
 
 -- the rows of a table: its lines below the top border, cut at its rules
-abbrev pub simple_rows : Grid → List RowLines
-simple_rows T = sections T (rules_of T)
+abbrev pub simple_rows : Bool → Grid → List RowLines
+simple_rows unmarked T = sections unmarked T (rules_of T)
 
 -- the spans of a row: those of the rule that ends it, or the columns of the table
 abbrev pub row_spans : Grid → RowLines → List RuleSpan
@@ -187,8 +193,8 @@ width_of columns widest k = let c = span_of columns k in
     if k + 1 == length columns then max (c.to - c.from) (widest - c.from) else c.to - c.from
 
 -- the widths of all columns
-abbrev pub simple_widths : Grid → List ℕ
-simple_widths T = map (width_of (columns_of T) (longest_of T (simple_rows T))) (range_with_len 0 (length (columns_of T)))
+abbrev pub simple_widths : Bool → Grid → List ℕ
+simple_widths unmarked T = map (width_of (columns_of T) (longest_of T (simple_rows unmarked T))) (range_with_len 0 (length (columns_of T)))
 
 -- where the k-th span of a row ends: the last has no end
 abbrev pub span_right : List RuleSpan → ℕ → Option ℕ
@@ -223,24 +229,25 @@ abbrev pub rule_fault : Grid → Option TableDetail
 rule_fault T = option_map (λ k. ColumnSpan (k + 1)) (find (is_unaligned T) (rules_of T))
 
 -- the first line with text between its columns, counted from 1
-abbrev pub margin_fault : Grid → Option TableDetail
-margin_fault T = option_map (λ k. Margin (k + 1)) (first_in_margin T (simple_rows T))
+abbrev pub margin_fault : Bool → Grid → Option TableDetail
+margin_fault unmarked T = option_map (λ k. Margin (k + 1)) (first_in_margin T (simple_rows unmarked T))
 
 -- the first fault of a table's lines: those of its rules come first
-abbrev pub lines_fault : Grid → Option TableDetail
-lines_fault T = option_or (rule_fault T) (margin_fault T)
+abbrev pub lines_fault : Bool → Grid → Option TableDetail
+lines_fault unmarked T = option_or (rule_fault T) (margin_fault unmarked T)
 
 -- the first fault of a table
 abbrev pub simple_fault : Block → Grid → Option TableDetail
-simple_fault X T = option_or (border_fault X (simple_bottom X)) (lines_fault T)
+simple_fault X T = option_or (border_fault X (simple_bottom X)) (lines_fault (first_parts X).unmarked T)
 
 -- ---- the answer
 
 -- What the lines of a table are, by their first fault, if they have one. The border that closes its head is one of them.
-abbrev pub simple_by : ℕ → ℕ → Option ℕ → Grid → Option TableDetail → TableResult
-simple_by line i head T (Some detail) = malformed line i (length T) detail
-simple_by line i head T None = Table (simple_widths T) (simple_head head (simple_rows T)) (map (row_entries T) (simple_rows T)) (i + length T)
+abbrev pub simple_by : Bool → ℕ → ℕ → Option ℕ → Grid → Option TableDetail → TableResult
+simple_by unmarked line i head T (Some detail) = malformed line i (length T) detail
+simple_by unmarked line i head T None =
+    let rows = simple_rows unmarked T in Table (simple_widths unmarked T) (simple_head head rows) (map (row_entries T) rows) (i + length T)
 
 -- the simple table whose top border is at place i of a block
 abbrev pub simple_table : Block → ℕ → TableResult
-simple_table B i = let X = drop i B in let T = rows_of (take (simple_size X) X) in simple_by (first_number X) i (head_border X) T (simple_fault X T)
+simple_table B i = let X = drop i B in let T = rows_of (take (simple_size X) X) in simple_by (first_parts X).unmarked (first_number X) i (head_border X) T (simple_fault X T)

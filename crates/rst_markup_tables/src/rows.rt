@@ -5,7 +5,7 @@ ghost use Rattle.std.specs.Prelude.{◌≡◌, codes, map, [], ◌∷◌};
 ghost use Rattle.rst_text.specs.Written.{block};
 ghost use Rattle.rst_markup_tables.specs.GridTable.{malformed};
 ghost use Rattle.rst_markup_tables.specs.Messages.{malformed_text};
-ghost use Rattle.rst_markup_tables.specs.Reads.{BreaksGrid, BreaksSimple, MakesGrid, MakesSimple, cell, plain};
+ghost use Rattle.rst_markup_tables.specs.Reads.{BreaksGrid, BreaksSimple, HoldsWider, MakesGrid, MakesSimple, cell, plain};
 ghost use Rattle.rst_markup_tables.specs.SimpleTable.{simple_table};
 ghost use Rattle.rst_markup_tables.specs.Tiling.{grid_table};
 ghost use Rattle.rst_markup_tables.specs.declared.results.TableDetail.TheVariants.{BottomBorderMissing, RightEdgeBroken, TwoHeadRules, ParseIncomplete, BorderMismatch, BottomMissing, ColumnSpan, Margin};
@@ -111,6 +111,19 @@ pub fn simple_rows()
         ((plain 2 ("a" ∷ "" ∷ []) ∷ plain 2 ("b" ∷ "c" ∷ []) ∷ []) ∷ []) 4 }
     ensures no_break_space_in_the_margin { MakesSimple ("== ==" ∷ "a \u{a0}b" ∷ "== ==" ∷ []) (2 ∷ 2 ∷ []) 0
         ((plain 2 ("a" ∷ []) ∷ plain 2 ("b" ∷ []) ∷ []) ∷ []) 3 }
+{}
+
+/// The rows of simple tables by the wider profile, where lines before the first row are in none.
+pub fn wider_rows()
+    ensures blank_first_cell { HoldsWider ("== ==" ∷ "   b" ∷ "a  c" ∷ "== ==" ∷ []) ((("a" ∷ []) ∷ ("c" ∷ []) ∷ []) ∷ []) }
+    ensures no_row_begins { HoldsWider ("== ==" ∷ "   b" ∷ "== ==" ∷ []) (([] ∷ [] ∷ []) ∷ []) }
+    ensures after_a_rule { HoldsWider ("== ==" ∷ "a  b" ∷ "-- --" ∷ "   x" ∷ "c  d" ∷ "== ==" ∷ [])
+        ((("a" ∷ []) ∷ ("b" ∷ []) ∷ []) ∷ (("c" ∷ []) ∷ ("d" ∷ []) ∷ []) ∷ []) }
+    ensures between_rules { HoldsWider ("== ==" ∷ "a  b" ∷ "-- --" ∷ "-- --" ∷ "c  d" ∷ "== ==" ∷ [])
+        ((("a" ∷ []) ∷ ("b" ∷ []) ∷ []) ∷ ([] ∷ [] ∷ []) ∷ (("c" ∷ []) ∷ ("d" ∷ []) ∷ []) ∷ []) }
+    ensures joined_columns { HoldsWider ("== ==" ∷ "   b" ∷ "-----" ∷ "a  c" ∷ "== ==" ∷ []) (([] ∷ []) ∷ (("a" ∷ []) ∷ ("c" ∷ []) ∷ []) ∷ []) }
+    ensures text_in_the_margin { HoldsWider ("== ==" ∷ "  x" ∷ "a  c" ∷ "== ==" ∷ []) ((("a" ∷ []) ∷ ("c" ∷ []) ∷ []) ∷ []) }
+    ensures wider_than_the_border { HoldsWider ("== ==" ∷ "   bcd" ∷ "a  c" ∷ "   d" ∷ "== ==" ∷ []) ((("a" ∷ "" ∷ []) ∷ ("c" ∷ "d" ∷ []) ∷ []) ∷ []) }
 {}
 
 /// The heads of simple tables (Markup Specification, 'Simple Tables').

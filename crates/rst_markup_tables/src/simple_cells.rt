@@ -74,8 +74,8 @@ impl SimpleLines<'_> {
 
     /// The widths of the columns.
     pub(crate) fn widths(&self, rows: &[RowLines]) -> Result<Widths>
-        requires { rows.now ≡ spec.simple_rows self.now.lines.now }
-        ensures { IfOk result (λ widths. widths ≡ spec.simple_widths self.now.lines.now) }
+        requires { rows.now ≡ spec.simple_rows self.now.unmarked self.now.lines.now }
+        ensures { IfOk result (λ widths. widths ≡ spec.simple_widths self.now.unmarked self.now.lines.now) }
     {
         let longest = self.longest_of(rows);
         let widths = column_widths(self.alloc, self.columns, longest)?;
@@ -87,8 +87,8 @@ impl SimpleLines<'_> {
         &self,
         rows: &[RowLines],
     ) -> Result<std::result::Result<Rows, TableDetail>>
-        requires { rows.now ≡ spec.simple_rows self.now.lines.now }
-        ensures { IfOk result (λ found. MatchResult found (λ all. (spec.margin_fault self.now.lines.now ≡ None) × (all ≡ map (spec.row_entries self.now.lines.now) rows.now)) (λ detail. spec.margin_fault self.now.lines.now ≡ Some detail)) }
+        requires { rows.now ≡ spec.simple_rows self.now.unmarked self.now.lines.now }
+        ensures { IfOk result (λ found. MatchResult found (λ all. (spec.margin_fault self.now.unmarked self.now.lines.now ≡ None) × (all ≡ map (spec.row_entries self.now.lines.now) rows.now)) (λ detail. spec.margin_fault self.now.unmarked self.now.lines.now ≡ Some detail)) }
     {
         let mut all = Vec::with_capacity(self.alloc, rows.len())?;
         for row in rows {

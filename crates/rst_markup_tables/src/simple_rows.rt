@@ -1,5 +1,5 @@
 //! The rows of a simple table.
-ghost use Rattle.std.specs.Prelude.{◌≡◌, ◌++◌, ◌+◌, ◌-◌, ◌^◌, ◌<◌, ℕ, not, get_or, length, IfOk, IfSome, option_map, find, vec_items};
+ghost use Rattle.std.specs.Prelude.{◌≡◌, ◌++◌, ◌+◌, ◌-◌, ◌^◌, ◌<◌, ◌≤◌, ℕ, not, get_or, length, IfOk, IfSome, option_map, find, vec_items};
 ghost use Rattle.std.specs.List.{list_all};
 ghost use Rattle.rst_markup_tables.specs.Places.{AreNumbered, row_at};
 ghost use Rattle.rst_text.specs.Places.{first_from};
@@ -25,6 +25,8 @@ pub(crate) struct SimpleLines<'a> {
     pub(crate) alloc: Global,
     pub(crate) lines: &'a [TableLine],
     pub(crate) columns: &'a [RuleSpan],
+    /// Whether the part `unmarked` is on, by which lines before the first row of a section are in no row.
+    pub(crate) unmarked: bool,
     ghost are_columns: { columns.now ≡ spec.columns_of lines.now },
     ghost numbered: { AreNumbered lines.now },
 }
@@ -119,6 +121,14 @@ impl SimpleLines<'_> {
         Ok(spans.unwrap_or(Vec::new(self.alloc)))
     }
 
+    /// Whether a row begins at a line: its first column isn't blank.
+    fn begins_row(&self, line: usize) -> bool
+        ensures { result ≡ spec.begins_row self.now.lines.now line }
+    {
+        let column = span_of(self.columns, 0);
+        !is_clear(row_at(self.lines, line), column.from, column.to)
+    }
+
     /// The first line that isn't blank, from place `low` on and before place `end`.
     fn text_start(&self, low: usize, end: usize) -> Option<usize>
         ensures value { result ≡ first_from (λ k. not (spec.is_empty_row (row_at self.now.lines.now k))) low (end - low) }
@@ -127,19 +137,38 @@ impl SimpleLines<'_> {
         (low..end).find(|k| !row_at(self.lines, *k).is_empty())
     }
 
+    /// The first line at which a row begins, from place `low` on and before place `end`.
+    fn row_start(&self, low: usize, end: usize) -> Option<usize>
+        ensures value { result ≡ first_from (spec.begins_row self.now.lines.now) low (end - low) }
+        ensures within { IfSome result (λ k. k < end) }
+    {
+        (low..end).find(|k| self.begins_row(*k))
+    }
+
+    /// Where the first row of the lines from place `low` on and before place `end` begins, if there is one.
+    fn first_row(&self, low: usize, end: usize) -> Option<usize>
+        ensures value { result ≡ spec.first_row self.now.unmarked self.now.lines.now low end }
+        ensures within { IfSome result (λ k. k ≤ end) }
+    {
+        if self.unmarked {
+            Some(self.row_start(low, end).unwrap_or(end))
+        } else {
+            self.text_start(low, end)
+        }
+    }
+
     /// The rows with those of the lines from place `low` on before a rule.
     fn with_section(&self, rows: Vec<RowLines>, low: usize, rule: usize) -> Result<Vec<RowLines>>
-        ensures { IfOk result (λ all. all.items ≡ rows.items ++ spec.section_rows self.now.lines.now low rule) }
+        requires { rule < length self.now.lines.now }
+        ensures { IfOk result (λ all. all.items ≡ rows.items ++ spec.section_rows self.now.unmarked self.now.lines.now low rule) }
     {
         let mut rows = rows;
-        let Some(begin) = self.text_start(low, rule) else {
+        let Some(begin) = self.first_row(low, rule) else {
             return Ok(rows);
         };
-        let column = span_of(self.columns, 0);
         let mut from = begin;
         for to in begin + 1..rule {
-            // A row begins where the first column isn't blank.
-            if !is_clear(row_at(self.lines, to), column.from, column.to) {
+            if self.begins_row(to) {
                 rows.push(RowLines { from, to, rule: 0 })?;
                 from = to;
                 continue;
@@ -156,7 +185,7 @@ impl SimpleLines<'_> {
     /// The rows of the table.
     pub(crate) fn rows(&self, rules: &[usize]) -> Result<Vec<RowLines>>
         requires within { (n : ℕ) → n < length rules.now → get_or rules.now n 0 < length self.now.lines.now }
-        ensures { IfOk result (λ rows. rows.items ≡ spec.sections self.now.lines.now rules.now) }
+        ensures { IfOk result (λ rows. rows.items ≡ spec.sections self.now.unmarked self.now.lines.now rules.now) }
     {
         let mut rows = Vec::new(self.alloc);
         let mut low = 1;

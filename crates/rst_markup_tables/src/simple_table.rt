@@ -22,6 +22,7 @@ use std::alloc::Global;
 /// table closes its head.
 fn simple_of(
     alloc: Global,
+    unmarked: bool,
     line: usize,
     first: usize,
     head: Option<usize>,
@@ -29,7 +30,7 @@ fn simple_of(
 ) -> Result<TableResult>
     requires fits { first + length lines.now < 2 ^ 64 }
     requires numbered { AreNumbered lines.now }
-    ensures { IfOk result (λ table. table ≡ spec.simple_by line first head lines.now (spec.lines_fault lines.now)) }
+    ensures { IfOk result (λ table. table ≡ spec.simple_by unmarked line first head lines.now (spec.lines_fault unmarked lines.now)) }
 {
     let size = lines.len();
     let columns = spans_of(alloc, row_at(lines, 0))?;
@@ -37,6 +38,7 @@ fn simple_of(
         alloc,
         lines,
         columns: &columns,
+        unmarked,
     };
     let rules = rules_of(alloc, lines)?;
     for rule in &rules {
@@ -77,6 +79,7 @@ pub fn simple(alloc: Global, view: &View<'_>, i: usize, looks: &mut Looks) -> Re
         return Ok(malformed(line, i, size, detail));
     }
     let lines = read_lines(alloc, view, i, i + size, looks)?;
-    let table = simple_of(alloc, line, i, borders.head, &lines)?;
+    let unmarked = view.parts(i).unmarked;
+    let table = simple_of(alloc, unmarked, line, i, borders.head, &lines)?;
     Ok(table)
 }

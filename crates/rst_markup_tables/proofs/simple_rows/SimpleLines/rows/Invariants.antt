@@ -6,5 +6,5 @@ use Rattle.rst_markup_tables.proofs.simple_rows.SimpleLines.rows.Given as goal
 abbrev pub invariant-loop-rule : goal.invariant-loop-rule
 invariant-loop-rule l = record {
   low : 1 ≤ l.low;
-  rows : l.rows.items ++ sections_left l.self.lines.now l.low (drop l.rule-index l.rules) ≡ sections l.self.lines.now l.rules;
+  rows : l.rows.items ++ sections_left l.self.unmarked l.self.lines.now l.low (drop l.rule-index l.rules) ≡ sections l.self.unmarked l.self.lines.now l.rules;
 }

@@ -11,4 +11,4 @@ returns c =
     let columns : List RuleSpan = c.args.self.now.columns.now in
     c.in_ok-widths.ensures
     ∙ ap (λ (m : ℕ). map (width_of columns m) (range_with_len 0 (length columns))) (c.longest_of-longest.ensures ∙ ap (longest_of lines) c.requires)
-    ∙ ap (λ (cs : List RuleSpan). map (width_of cs (longest_of lines (simple_rows lines))) (range_with_len 0 (length cs))) c.args.self.now.are_columns
+    ∙ ap (λ (cs : List RuleSpan). map (width_of cs (longest_of lines (simple_rows c.args.self.now.unmarked lines))) (range_with_len 0 (length cs))) c.args.self.now.are_columns
