@@ -5,11 +5,11 @@
 
 It takes the edits of these crates in must-fail/, wrong-bodies/ and more-edits/, or with --wrong-bodies only those there; with no crate it takes
 all crates. It makes as many as N (25 if not given) in a copy of the crate, no two in functions of one name, and checks the functions that they are
-in. Those that these call have holes for proofs there, since `rt ci` proved them: only their contracts count. That takes some ten seconds an edit.
-It needs the libraries that `rt ci` built in this checkout (crates/*/out/rlib). With --jobs it tries those of N crates side by side. An edit that was refused stays so as long as the crate, the libraries
+in and those that these call. That takes some ten seconds an edit. It needs the libraries that `rt ci` built in this checkout
+(crates/*/out/rlib). With --jobs it tries those of N crates side by side. An edit that was refused stays so as long as the crate, the libraries
 below it and the kit are the same: that is kept below ~/.cache, and with --anew it is tried again.
 
-A function counts as refused if something of its own isn't proved. An edit outside of a
+A function counts as refused if something of its own isn't proved; that a function it calls isn't proved doesn't count. An edit outside of a
 function, one of several functions, one that can't be made beside the others, and one that isn't refused beside them are tried alone, and if
 the functions, the laws and the worked examples are proved then, with the whole crate. The first two count as refused if any function is, or a
 lemma.
@@ -33,17 +33,10 @@ from edits_apply import KINDS, pairs
 TOP = pathlib.Path(__file__).resolve().parent.parent
 KIT = pathlib.Path(shutil.which("rattle") or "/").resolve().parent.parent
 REFUSALS = pathlib.Path(os.environ.get("XDG_CACHE_HOME") or pathlib.Path.home() / ".cache") / "rst2pseudoxml/edits"
-CYCLE = re.compile(r"\s*#\[cycle\(")
 FUNCTION = re.compile(r'\s*(?:pub(?:\(\w+\))? )?(?:const )?(?:unsafe )?(?:extern "C" )?fn (\w+)')
 IMPLEMENTATION = re.compile(r"impl\b(?:<.*?>)? (?:(\w+)(?:<.*>)? for )?(\w+)")
-TRAIT = re.compile(r"(?:pub(?:\(\w+\))? )?trait ")
 VERDICT = re.compile(r"^fn \w+::(\S+): (.*)$", re.MULTILINE)
 REFUSED = re.compile(r"^not proved|did not prove|expected answers")
-HOLE = """use Rattle.{crate}.proofs.{path}.Statement.{{statement}}
-
-pub {name}_spec : {{M : Type 1}} → statement M
-{name}_spec 𝓤 𝓛 𝓜 𝓡 w = ?
-"""
 
 
 def libraries():
@@ -82,50 +75,25 @@ def stamp(crates, crate):
     return summed.digest()
 
 
-def functions_in(path, text):
-    """The functions of a file, in their order: of each the place of its line, its path below the crate, and whether it is in a cycle of calls. No
-    path stands at the end of a function or of an implementation."""
-    module = [part for part in path.with_suffix("").parts[1:] if part not in ("lib", "main", "mod")]
-    owner, begin, in_cycle, in_trait = [], 0, False, False
-    for line in text.splitlines(keepends=True):
-        implementation, function = IMPLEMENTATION.match(line), FUNCTION.match(line)
-        in_cycle = in_cycle or CYCLE.match(line) is not None
-        in_trait = in_trait or TRAIT.match(line) is not None
-        if implementation:
-            owner = [implementation[2] + (implementation[1] or "")]
-        if function and not in_trait:
-            yield begin, "::".join([*module, *owner, function[1]]), in_cycle
-            in_cycle = False
-        begin += len(line)
-        if line.startswith("}"):
-            owner, in_trait = [], False
-            yield begin, None, False
-
-
 def function_at(path, text, place):
     """The function that a place of a file is in, by its path below the crate, if it is in one."""
-    found = None
-    for begin, function, _ in functions_in(path, text):
+    module = [part for part in path.with_suffix("").parts[1:] if part not in ("lib", "main", "mod")]
+    name, owner, begin = None, [], 0
+    for line in text.splitlines(keepends=True):
+        implementation = IMPLEMENTATION.match(line)
+        if implementation:
+            owner = [implementation[2] + (implementation[1] or "")]
+        elif line.startswith("}"):
+            owner = []
+        found = FUNCTION.match(line)
+        if found:
+            name = "::".join([*module, *owner, found[1]])
+        begin += len(line)
         if place < begin:
-            break
-        found = function
-    return found
-
-
-def put_holes(folder, crate, edited):
-    """Puts a hole in place of each proof in a copy of a crate but those of edited functions, of cycles of calls and of tests."""
-    for file in sorted(folder.glob("src/**/*.rt")):
-        if "tests" in file.stem:
-            continue
-        for _, path, in_cycle in functions_in(file.relative_to(folder), file.read_text(encoding="utf-8")):
-            if path is None or in_cycle or path in edited:
-                continue
-            *_, name = parts = path.split("::")
-            proof = folder.joinpath("proofs", *parts)
-            proof.mkdir(parents=True, exist_ok=True)
-            for written in proof.glob("*.antt"):
-                written.unlink()
-            (proof / "Proof.antt").write_text(HOLE.format(crate=crate, path=".".join(parts), name=name), encoding="utf-8")
+            return name
+        if line.startswith("}"):
+            name = None
+    return None
 
 
 class Edit:
@@ -195,9 +163,6 @@ class Trial:
         shutil.rmtree(self.copy, ignore_errors=True)
         shutil.copytree(self.crate, self.copy, ignore=shutil.ignore_patterns("out"))
         made = [edit for edit in group if edit.make(self.copy)]
-        if only and all(edit.function for edit in group):
-            put_holes(self.copy, self.crate.name, {path for edit in group for path in edit.paths})
-            only = [*only, "--allow-holes"]
         run = subprocess.run([*self.words, *only], cwd=self.copy, stdout=subprocess.PIPE, stderr=subprocess.STDOUT, text=True, check=False)
         verdicts = VERDICT.findall(run.stdout)
         if run.returncode != 0 and not verdicts:
