@@ -72,9 +72,9 @@ pub(crate) fn resume(
             level.append_marked(made)?;
             return Ok(Step::Next);
         }
-        Waits::Rows(open) => {
+        Waits::Rows(boxed) => {
             let looks = &mut pass.looks;
-            let table = Box::into_inner(open);
+            let table = Box::into_inner(boxed);
             let made = finished_table(pass.alloc, view, table, nodes, looks)?;
             level.append_marked(made)?;
             return Ok(Step::Next);

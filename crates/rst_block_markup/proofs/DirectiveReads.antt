@@ -1,5 +1,5 @@
 -- What a block gives once a directive in it is read.
-use Rattle.std.proofs.Common.{◌≡◌, ℕ, suc, ◌+◌, ◌-◌, ◌<◌, ◌≤◌, Bool, cond, drop, Result, arith, true, false, List, [], ◌∷◌, Some, None, Ok, Err, refl, sym, ◌∙◌, ap}
+use Rattle.std.proofs.Common.{box_value, Box, ◌≡◌, ℕ, suc, ◌+◌, ◌-◌, ◌<◌, ◌≤◌, Bool, cond, drop, Result, arith, true, false, List, [], ◌∷◌, Some, None, Ok, Err, refl, sym, ◌∙◌, ap}
 use Rattle.rst_settings.specs.declared.Parts.{Parts}
 use Rattle.rst_text.specs.Block.{Block, first_number}
 use Rattle.rst_text.specs.Looked.{capped}
@@ -13,15 +13,18 @@ use Rattle.rst_markup_directives.specs.Options.{OptionSetting, choices_in}
 use Rattle.rst_markup_directives.specs.declared.argument.Argument.{Argument}
 use Rattle.rst_markup_directives.specs.declared.argument.Argument.TheVariants.{Title, Uri}
 use Rattle.rst_markup_directives.specs.declared.kind.ContentKind.{ContentKind}
-use Rattle.rst_markup_directives.specs.declared.kind.ContentKind.TheVariants.{Classed, Quotes}
+use Rattle.rst_markup_directives.specs.declared.kind.ContentKind.TheVariants.{Classed, Quotes, Rows}
 use Rattle.rst_markup_directives.specs.declared.kind.QuoteClass.{QuoteClass}
 use Rattle.rst_markup_directives.specs.declared.options.Setting.{Setting}
 use Rattle.rst_block_nodes.specs.Options.{directive_element, figure_element, image_element}
+use Rattle.rst_block_nodes.specs.ListTables.{Asked, asked_in, asked_of}
 use Rattle.rst_block_nodes.specs.Sections.{filled}
+use Rattle.rst_block_nodes.specs.declared.table_requests.TableOptions.{TableOptions}
 use Rattle.rst_block_state.specs.Directives.{class_nodes, closed_nodes, completed, content_nodes, holding, titled_nodes, titled_start, plain_nodes, figure_of, opened_by}
 use Rattle.rst_block_state.specs.Figures.{caption_error, figure_nodes}
 use Rattle.rst_block_state.specs.Inside.{content_blocks}
-use Rattle.rst_block_markup.specs.MarkupSteps.{IsDirectiveRead, IsOpenedRead, made_of_content, marked_text, read_of_directive, reads_with}
+use Rattle.rst_block_state.specs.ListTables.{list_table_nodes}
+use Rattle.rst_block_markup.specs.MarkupSteps.{IsDirectiveRead, IsForContent, IsOpenedRead, made_of_content, marked_text, read_of_directive, reads_with}
 use Rattle.rst_block_markup.specs.declared.directive.Found.{Found}
 use Rattle.rst_block_state.specs.machine.Meanings.{within_at, reads_from, comes, Keeps, deepest, resumed}
 use Rattle.rst_block_state.specs.Numbered.{then_read, ◌>>=◌, just}
@@ -31,7 +34,10 @@ use Rattle.rst_block_state.specs.Within.{Within}
 use Rattle.rst_block_nodes.specs.declared.fault.BlockFault.{BlockFault}
 use Rattle.rst_block_nodes.specs.declared.fault.BlockFault.TheVariants.{TooDeep, NoMemory}
 use Rattle.rst_block_state.specs.declared.open_block.OpenBlock.{OpenBlock}
+use Rattle.rst_block_state.specs.declared.waits.OpenTable.{OpenTable}
 use Rattle.rst_block_state.specs.declared.waits.Waits.{Waits}
+use Rattle.rst_block_state.specs.declared.waits.Waits.TheVariants.{Element, Rows as WaitsForRows}
+use Rattle.std.specs.declared.alloc.Global.{Global}
 use Rattle.rst_block_state.specs.declared.step.Step.{Step}
 use Rattle.rst_block_state.specs.declared.step.Step.TheVariants.{Next, Open}
 use Rattle.rst_block_state.specs.declared.texts.Pass.{Pass}
@@ -94,6 +100,36 @@ closed_refused f NoMemory follows blocks h is = rw is (record { step = tt; read 
 -- the text of one that holds a text, in other words
 pub text_is : {parts asked : Parts} {line at : ℕ} {t u : List ℕ} (literal : Bool) (read : Read) → parts ≡ asked → line ≡ at → t ≡ u → marked_text literal read parts line t ≡ marked_text literal read asked at u
 text_is {parts} {asked} {line} {at} {t} {u} literal read p l e = ap (λ x. marked_text literal read x line t) p ∙ ap (λ k. marked_text literal read asked k t) l ∙ ap (marked_text literal read asked at) e
+
+-- ---- what a block waits for
+
+-- a content that makes no table is held by the directive's element
+filled_as : (content : ContentKind) (options : List OptionSetting) (element : Node) (line : ℕ) (lines : List ℕ) (ns : List Node) → (content ≡ Rows → ⊥) → completed content options element line lines ns ≡ filled element ns ∷ []
+filled_as Rows options element line lines ns other = absurd (other refl)
+filled_as _ options element line lines ns other = refl
+
+pub element_waits : (f : Found) (start : ℕ) (element : Node) → (f.kind.content ≡ Rows → ⊥) → IsForContent f start element (Element element)
+element_waits f start element other = record {
+  one = tt;
+  waiting = λ B at. tt;
+  looks = omega arith;
+  made = λ l B ns. ap (λ (x : List Node). reads_from l B x l.at)
+      (sym (filled_as f.kind.content (choices_in f.options.items) element (first_number (drop start B)) (span_source B (record { start = start; stop = f.end })) ns other));
+}
+
+pub rows_wait : (f : Found) (start : ℕ) (element : Node) (asked : TableOptions) (boxed : Box OpenTable Global) → f.kind.content ≡ Rows → box_value boxed ≡ record { table = element; asked = asked; start = start; end = f.end }
+    → asked_in asked ≡ asked_of (choices_in f.options.items) → IsForContent f start element (WaitsForRows boxed)
+rows_wait f start element asked boxed is table same = record {
+  one = tt;
+  waiting = λ B at. tt;
+  looks = omega (arith, ap (λ (t : OpenTable). t.end - t.start) table);
+  made = λ l B ns.
+      let line : ℕ = first_number (drop start B) in
+      let lines : List ℕ = span_source B (record { start = start; stop = f.end }) in
+      let nodes : OpenTable → List Node = λ t. list_table_nodes (first_number (drop t.start B)) (span_source B (record { start = t.start; stop = t.end })) t.table (asked_in t.asked) ns in
+      ap (λ (x : List Node). reads_from l B x l.at)
+      (ap nodes table ∙ ap (λ (a : Asked). list_table_nodes line lines element a ns) same ∙ ap (λ k. completed k (choices_in f.options.items) element line lines ns) (sym is));
+}
 
 -- ---- what comes
 

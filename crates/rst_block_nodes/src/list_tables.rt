@@ -5,7 +5,9 @@ ghost use Rattle.std.specs.Result.{result_map_both};
 ghost use Rattle.rst_tree.specs.declared.node.Node.{Node};
 ghost use Rattle.rst_markup_directives.specs.Widths.{columns_in};
 ghost use Rattle.rst_block_nodes.specs.ListTables as spec;
+ghost use Rattle.rst_block_nodes.specs.TableOfContents as titles;
 
+use super::contents::append;
 use super::nodes::element_of;
 use super::table_faults::TableFault;
 use super::table_requests::TableOptions;
@@ -228,7 +230,7 @@ fn equal_widths(alloc: Global, columns: usize) -> Result<Vec<u64>>
     ensures { IfOk result (λ made. made.items ≡ replicate columns (100 / columns)) }
 {
     let mut widths = Vec::new(alloc);
-    for _ in 0..columns {
+    for _place in 0..columns {
         widths.push((100 / columns) as u64)?;
     }
     Ok(widths)
@@ -251,22 +253,28 @@ fn columns_of(alloc: Global, stubs: u64, widths: &[u64], line: usize) -> Result<
     Ok(nodes)
 }
 
-/// Adds the head of a table, if it has one, and its body.
-fn add_rows(alloc: Global, heads: u64, items: Vec<Node>, nodes: &mut Vec<Node>) -> Result<()>
-    ensures { IfOk result (λ _. nodes.new.items ≡ nodes.old.items ++ spec.row_groups heads (map spec.row_of items.items)) }
+/// The rows of a table with their entries.
+fn rows_of(alloc: Global, items: Vec<Node>) -> Result<Vec<Node>>
+    ensures { IfOk result (λ rows. rows.items ≡ map spec.row_of items.items) }
 {
-    let mut head = Vec::new(alloc);
-    let mut body = Vec::new(alloc);
+    let mut rows = Vec::with_capacity(alloc, items.len())?;
     for item in items {
-        let row = row_of(alloc, item)?;
-        if (head.len() as u64) < heads {
-            head.push(row)?;
-        } else {
-            body.push(row)?;
-        }
+        rows.push(row_of(alloc, item)?)?;
+    }
+    Ok(rows)
+}
+
+/// Adds the head of a table, if it has one, and its body.
+#[tactic(auto, using(crate::proofs::ListTableLemmas::head_alone, crate::proofs::ListTableLemmas::no_body))]
+fn add_rows(alloc: Global, heads: u64, mut rows: Vec<Node>, nodes: &mut Vec<Node>) -> Result<()>
+    ensures { IfOk result (λ _. nodes.new.items ≡ nodes.old.items ++ spec.row_groups heads rows.items) }
+{
+    let mut body = Vec::new(alloc);
+    if heads < rows.len() as u64 {
+        body = rows.split_off(heads as usize)?;
     }
     if 0 < heads {
-        nodes.push(element_of(Tag::Thead, Attrs::new(alloc), head, 0))?;
+        nodes.push(element_of(Tag::Thead, Attrs::new(alloc), rows, 0))?;
     }
     nodes.push(element_of(Tag::Tbody, Attrs::new(alloc), body, 0))?;
     Ok(())
@@ -280,7 +288,8 @@ fn table_group(alloc: Global, asked: &TableOptions, line: usize, items: Vec<Node
     let widths = column_widths(alloc, columns, &asked.widths)?;
     let attrs = Attrs::lone(alloc, Key::Cols, Value::Number(widths.len() as u64))?;
     let mut nodes = columns_of(alloc, asked.stubs, &widths, line)?;
-    add_rows(alloc, asked.heads, items, &mut nodes)?;
+    let rows = rows_of(alloc, items)?;
+    add_rows(alloc, asked.heads, rows, &mut nodes)?;
     Ok(element_of(Tag::Tgroup, attrs, nodes, line))
 }
 
@@ -301,6 +310,20 @@ fn add_width_class(alloc: Global, attrs: &mut Attrs, widths: &Option<Widths>) ->
     attrs.set(Key::Classes, Value::List(classes))
 }
 
+/// Nodes without the numbers of their texts' messages.
+fn uncounted(alloc: Global, nodes: Vec<Node>) -> Result<Vec<Node>>
+    ensures { IfOk result (λ made. made.items ≡ map titles.uncounted nodes.items) }
+{
+    let mut made = Vec::new(alloc);
+    for mut node in nodes {
+        if let Node::Element { attrs, .. } = &mut node {
+            let _count = attrs.remove(Key::TextMessages);
+        }
+        made.push(node)?;
+    }
+    Ok(made)
+}
+
 /// A table that begins with its title and the messages on this, or with nothing, and these messages after it.
 fn made_table(
     alloc: Global,
@@ -312,32 +335,23 @@ fn made_table(
     ensures { IfOk result (λ nodes. nodes.items ≡ spec.made_table start (spec.asked_in asked.now) line items.items) }
 {
     let mut made = Vec::new(alloc);
-    let (tag, mut attrs, children, own_line) = match start {
+    match start {
         Node::Element {
             tag,
-            attrs,
+            mut attrs,
             children,
-            line,
-        } => (tag, attrs, children, line),
-        Node::Text(text) => {
-            made.push(Node::Text(text))?;
-            return Ok(made);
+            line: own_line,
+        } => {
+            add_width_class(alloc, &mut attrs, &asked.widths)?;
+            let mut title = children.into_list();
+            let count = if title.is_empty() { 0 } else { 1 };
+            let notes = title.split_off(count)?;
+            let mut nodes = uncounted(alloc, title)?;
+            nodes.push(table_group(alloc, asked, line, items)?)?;
+            made.push(element_of(tag, attrs, nodes, own_line))?;
+            append(&mut made, notes)?;
         }
-    };
-    add_width_class(alloc, &mut attrs, &asked.widths)?;
-    let group = table_group(alloc, asked, line, items)?;
-    let mut nodes = Vec::new(alloc);
-    let mut rest = children.into_list().into_iter();
-    if let Some(mut title) = rest.next() {
-        if let Node::Element { attrs, .. } = &mut title {
-            let _count = attrs.remove(Key::TextMessages);
-        }
-        nodes.push(title)?;
-    }
-    nodes.push(group)?;
-    made.push(element_of(tag, attrs, nodes, own_line))?;
-    for note in rest {
-        made.push(note)?;
+        Node::Text(text) => made.push(Node::Text(text))?,
     }
     Ok(made)
 }

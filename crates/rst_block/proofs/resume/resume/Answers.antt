@@ -65,16 +65,16 @@ returns-in-Rows c =
     let x = c.in-Rows in
     let m = c.in_ok-append_marked-in-Rows.ensures.more in
     let run : run_looks c.append_marked-in-Rows.new.self.run ≡ run_looks old.run = ap run_looks m.run in
-    let o = box_value x.open in
-    let open : c.into_inner-table.result ≡ o = c.into_inner-table.ensures in
+    let o = box_value x.boxed in
+    let same : c.into_inner-table.result ≡ o = c.into_inner-table.ensures in
     let lines : waiting_looks c.args.waits ≡ o.end - o.start = ap waiting_looks x.is in
-    let looked : c.finished_table.new.looks ≤ c.args.pass.now.looks + (o.end - o.start) = subst (λ (t : OpenTable). c.finished_table.new.looks ≤ c.args.pass.now.looks + (t.end - t.start)) open c.finished_table.ensures.looks in
+    let looked : c.finished_table.new.looks ≤ c.args.pass.now.looks + (o.end - o.start) = subst (λ (t : OpenTable). c.finished_table.new.looks ≤ c.args.pass.now.looks + (t.end - t.start)) same c.finished_table.ensures.looks in
     let nodes : OpenTable → List Node = λ t. list_table_nodes (first_number (drop t.start B)) (span_source B (record { start = t.start; stop = t.end })) t.table (asked_in t.asked) c.args.nodes in
     record {
       step = m.at;
       goes = record {
         kept = m.depth;
-        read = nodes_given B n m (c.in_ok-made-in-Rows.ensures.table ∙ ap nodes open) refl ∙ ap (λ waits. resumed old B waits c.args.nodes n) (sym x.is);
+        read = nodes_given B n m (c.in_ok-made-in-Rows.ensures.table ∙ ap nodes same) refl ∙ ap (λ waits. resumed old B waits c.args.nodes n) (sym x.is);
         paid = waited old c.append_marked-in-Rows.new.self B c.args.waits _ _ (subst WaitsForOne (sym x.is) tt) m.depth m.at (omega (arith, run)) (omega (arith, lines, looked)) c.in_ok-made-in-Rows.ensures.low;
       };
     }
