@@ -7,10 +7,11 @@ directives, and on a file that isn't read, have no source text on standard error
 from wider_directives import DIRECTIVES
 from wider_fields import FIELDS
 from wider_inline import INLINE
+from wider_tables import TABLES
 from wider_targets import TARGETS
 
 # A name, a text, and its tree and messages under the wider profile; under the other one they differ.
-WIDER = [*INLINE, *DIRECTIVES, *FIELDS, *TARGETS]
+WIDER = [*INLINE, *DIRECTIVES, *TABLES, *FIELDS, *TARGETS]
 
 SAME = [
     ("a backquote after a space", "x\n\n:a `b` c: d\n"),

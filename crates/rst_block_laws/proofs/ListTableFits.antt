@@ -1,6 +1,6 @@
 -- A table that is made of lists has at most two levels more than these, and its texts have a property that those in the lists have.
 use Rattle.std.proofs.Common.{◌≡◌, ℕ, ◌+◌, ◌-◌, ◌≤◌, Bool, true, List, [], ◌∷◌, ◌++◌, Option, None, Some, map, take, drop, codes, decimal, length, arith, refl}
-use Rattle.std.specs.Prelude.{nat_lt, unwrap_or}
+use Rattle.std.specs.Prelude.{if◌then◌else◌, nat_lt, unwrap_or}
 use Rattle.std.specs.List.{list_all}
 use Rattle.std.specs.Option.{IfSome}
 use Rattle.std.proofs.lemmas.Bool.{cond_both}
@@ -22,6 +22,7 @@ use Rattle.rst_block_nodes.specs.TableOfContents.{uncounted}
 use Rattle.rst_block_nodes.specs.declared.table_faults.TableFault.{TableFault}
 use Rattle.rst_block_nodes.specs.declared.table_faults.TableFault.TheVariants.{FewColumns, FewRows, NoBody, NoInnerList, NoStubless, NotOneList, OtherWidths, Uneven}
 use Rattle.rst_block_state.specs.ListTables.{list_table_nodes, table_or_error}
+use Rattle.rst_block_state.specs.Texts.{message_with_lines}
 use Rattle.rst_tree_laws.proofs.Decimals.{decimal_fixed}
 use Rattle.rst_tree_laws.proofs.Have.{with_attr_has, without_key_has}
 use Rattle.rst_tree_laws.proofs.Lists.{all_append, all_drop, all_map, all_take}
@@ -129,5 +130,5 @@ module _ (P : ℕ → Bool) (T : List ℕ → Type 0) (s : Suited P T) where
     ]
   ] (only_fit k ns low)
     where
-      error : (fault : TableFault) → Fits T (k + 2) _
+      error : (fault : TableFault) → Fits T (k + 2) (message_with_lines Error line (table_fault_text fault) lines)
       error fault = message_fits T (k + 2) (omega arith) Error line (table_fault_text fault) (Some lines) (fixed_has P T s (table_fault_text fault) (fault_fixed fault)) l
