@@ -22,7 +22,7 @@ import sys
 
 from real import DIRECTIVES, TOP
 
-WIDER = "rubric parsed-literal raw compound container class include contents".split()
+WIDER = "rubric parsed-literal raw compound container class include contents list-table".split()
 ROLES = (
     "abbreviation ab acronym ac math code pep-reference pep rfc-reference rfc raw index i named-reference anonymous-reference footnote-reference "
     "citation-reference substitution-reference target uri-reference uri url emphasis strong literal subscript sub superscript sup "
@@ -88,7 +88,7 @@ class Maker:
         return self.of(made, made, made, [":sub:`2`: c"])
 
     def directive(self) -> list[str]:
-        name = self.of(*WIDER, *WIDER, *WIDER, "note", "image", "code", "foo", "list-table")
+        name = self.of(*WIDER, *WIDER, *WIDER, "note", "image", "code", "foo", "table")
         usual = {"rubric": self.text(), "raw": self.of("html", "HTML  x", "h,t"), "container": self.of("", "a", "A b", "?", "a ?"), "image": "a.png"}
         usual["contents"] = self.of("", self.text())
         usual["class"] = self.of("a", "A b", "b c d", "?")

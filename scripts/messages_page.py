@@ -19,7 +19,7 @@ TOKEN = re.compile(r'"(?:[^"\\]|\\.)*"|\+\+|[\w.]+|\S')
 KEYWORDS = {"if", "then", "else", "let", "in", "record"}
 NAME, NUMBER = "\1", "\2"  # what a text has from elsewhere
 GAPS = {NAME: ("X", "Y", "Z"), NUMBER: ("N", "M", "K")}
-SENTENCE = re.compile(r'(?:"\x01"|[A-Za-z]).*\s.*[.:)]|[A-Z].*\s.*[^"\1]', re.S)
+SENTENCE = re.compile(r'(?:"(?:\x01|[a-z-]+)"|\x02 |[A-Za-z]).*\s.*[.:)]|[A-Z].*\s.*[^"\1]', re.S)
 PART = ""  # stands for the name of what is a part of a text alone
 OTHERS = {"Docutils System Messages"}  # a title
 

@@ -8,10 +8,11 @@ from wider_contents import CONTENTS
 from wider_directives import DIRECTIVES
 from wider_fields import FIELDS
 from wider_inline import INLINE
+from wider_tables import TABLES
 from wider_targets import TARGETS
 
 # A name, a text, and its tree and messages under the wider profile; under the other one they differ.
-WIDER = [*INLINE, *DIRECTIVES, *CONTENTS, *FIELDS, *TARGETS]
+WIDER = [*INLINE, *DIRECTIVES, *CONTENTS, *TABLES, *FIELDS, *TARGETS]
 
 SAME = [
     ("a backquote after a space", "x\n\n:a `b` c: d\n"),

@@ -29,7 +29,7 @@ use Rattle.rst_markup_tables.specs.declared.results.TableResult.{TableResult}
 use Rattle.rst_markup_tables.specs.declared.results.TableResult.TheVariants.{Table, Malformed}
 use Rattle.rst_block_nodes.specs.Sections.{filled}
 use Rattle.rst_block_state.specs.Constructs.{ItemMark, definition_item, field_item, Construct, block_quote, item_of_list, grid, simple, explicit_markup, Found}
-use Rattle.rst_block_state.specs.Directives.{content_nodes, called, is_handed_at, titled_start, opened_by as opened_nodes, directive_by, definition_or_error, closed_with, content_lines}
+use Rattle.rst_block_state.specs.Directives.{content_nodes, called, is_handed_at, titled_start, completed, opened_by as opened_nodes, directive_by, definition_or_error, closed_with, content_lines}
 use Rattle.rst_block_state.specs.Inside.{quoted_by, quoted, part_of_item, content_blocks, directive_blocks, markup_blocks, opened_by, opened_of, cell_blocks, cells_by, cells_with}
 use Rattle.rst_block_state.specs.LineRuns.{IndentedLine, line_block, verse_lines}
 use Rattle.rst_block_state.specs.Lists.{item_by, item_with}
@@ -157,7 +157,7 @@ module _ (all code later titles : Bool) (levels more : ℕ) (nest : NestAlike al
   opened_alike : (given : ArgumentMeaning) (B : Block) (line : ℕ) (read : Read) (lines : List ℕ) (n : ℕ) → Inside (content_blocks B read.content)
       → Alike all (opened_nodes given c B line read lines n) (opened_nodes given d B line read lines n)
   opened_alike (title part) B line read lines n i =
-      let rest : Node → List Node → Numbered (List Node) = λ start nodes. just (filled start nodes ∷ []) in
+      let rest : Node → List Node → Numbered (List Node) = λ start nodes. just (completed read.kind.content read.options start line lines nodes) in
       after_alike all (titled_start line read (lines_in B part) n) (λ start. content_nodes c B read.content >>= rest start) (λ start. content_nodes d B read.content >>= rest start)
       (λ start k. content_then B read.content (rest start) k i)
   opened_alike (uri address) B line read lines n i = content_then B read.content _ n i

@@ -12,7 +12,9 @@ ghost use Rattle.rst_block_nodes.specs.declared.texted.Texted.{Texted};
 ghost use Rattle.rst_block_state.specs.declared.waits.Waits.TheVariants.{Quote};
 
 use rst_block_body::quote::quote_part;
-use rst_block_markup::{finished_classes, finished_figure, finished_quotes, finished_replacement};
+use rst_block_markup::{
+    finished_classes, finished_figure, finished_quotes, finished_replacement, finished_table,
+};
 use rst_block_nodes::{Texted, completed};
 use rst_block_state::{OpenBlock, Pass, Result, Step, Waits};
 use rst_markup_blocks::Part;
@@ -67,6 +69,13 @@ pub(crate) fn resume(
         Waits::Figure { figure, start, end } => {
             let looks = &mut pass.looks;
             let made = finished_figure(pass.alloc, view, figure, start, end, nodes, looks)?;
+            level.append_marked(made)?;
+            return Ok(Step::Next);
+        }
+        Waits::Rows(boxed) => {
+            let looks = &mut pass.looks;
+            let table = Box::into_inner(boxed);
+            let made = finished_table(pass.alloc, view, table, nodes, looks)?;
             level.append_marked(made)?;
             return Ok(Step::Next);
         }

@@ -10,6 +10,7 @@ pub mod MessageFits
 pub mod MarkFits
 pub mod CellTexts
 pub mod TableFits
+pub mod ListTableFits
 pub mod DirectiveTexts
 pub mod DirectiveKinds
 pub mod DirectiveFits

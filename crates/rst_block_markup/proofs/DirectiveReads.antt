@@ -1,5 +1,5 @@
 -- What a block gives once a directive in it is read.
-use Rattle.std.proofs.Common.{◌≡◌, ℕ, suc, ◌+◌, ◌-◌, ◌<◌, ◌≤◌, Bool, cond, drop, Result, arith, true, false, List, [], ◌∷◌, Some, None, Ok, Err, refl, sym, ◌∙◌, ap}
+use Rattle.std.proofs.Common.{box_value, Box, ◌≡◌, ℕ, suc, ◌+◌, ◌-◌, ◌<◌, ◌≤◌, Bool, cond, drop, Result, arith, true, false, List, [], ◌∷◌, Some, None, Ok, Err, refl, sym, ◌∙◌, ap}
 use Rattle.rst_settings.specs.declared.Parts.{Parts}
 use Rattle.rst_text.specs.Block.{Block, first_number}
 use Rattle.rst_text.specs.Looked.{capped}
@@ -9,19 +9,22 @@ use Rattle.rst_markup_directives.specs.Argument.{ArgumentMeaning, nothing, given
 use Rattle.rst_markup_directives.specs.Call.{is_empty}
 use Rattle.rst_markup_directives.specs.Directive.{Read}
 use Rattle.rst_markup_directives.specs.Kind.{has_blocks}
-use Rattle.rst_markup_directives.specs.Options.{choices_in}
+use Rattle.rst_markup_directives.specs.Options.{OptionSetting, choices_in}
 use Rattle.rst_markup_directives.specs.declared.argument.Argument.{Argument}
 use Rattle.rst_markup_directives.specs.declared.argument.Argument.TheVariants.{Title, Uri}
 use Rattle.rst_markup_directives.specs.declared.kind.ContentKind.{ContentKind}
-use Rattle.rst_markup_directives.specs.declared.kind.ContentKind.TheVariants.{Classed, Quotes}
+use Rattle.rst_markup_directives.specs.declared.kind.ContentKind.TheVariants.{Classed, Quotes, Rows}
 use Rattle.rst_markup_directives.specs.declared.kind.QuoteClass.{QuoteClass}
 use Rattle.rst_markup_directives.specs.declared.options.Setting.{Setting}
 use Rattle.rst_block_nodes.specs.Options.{directive_element, figure_element, image_element}
+use Rattle.rst_block_nodes.specs.ListTables.{Asked, asked_in, asked_of}
 use Rattle.rst_block_nodes.specs.Sections.{filled}
-use Rattle.rst_block_state.specs.Directives.{class_nodes, closed_nodes, content_nodes, holding, titled_nodes, titled_start, plain_nodes, figure_of, opened_by}
+use Rattle.rst_block_nodes.specs.declared.table_requests.TableOptions.{TableOptions}
+use Rattle.rst_block_state.specs.Directives.{class_nodes, closed_nodes, completed, content_nodes, holding, titled_nodes, titled_start, plain_nodes, figure_of, opened_by}
 use Rattle.rst_block_state.specs.Figures.{caption_error, figure_nodes}
 use Rattle.rst_block_state.specs.Inside.{content_blocks}
-use Rattle.rst_block_markup.specs.MarkupSteps.{IsDirectiveRead, IsOpenedRead, made_of_content, marked_text, read_of_directive, reads_with}
+use Rattle.rst_block_state.specs.ListTables.{list_table_nodes}
+use Rattle.rst_block_markup.specs.MarkupSteps.{IsDirectiveRead, IsForContent, IsOpenedRead, made_of_content, marked_text, read_of_directive, reads_with}
 use Rattle.rst_block_markup.specs.declared.directive.Found.{Found}
 use Rattle.rst_block_state.specs.machine.Meanings.{within_at, reads_from, comes, Keeps, deepest, resumed}
 use Rattle.rst_block_state.specs.Numbered.{then_read, ◌>>=◌, just}
@@ -31,8 +34,10 @@ use Rattle.rst_block_state.specs.Within.{Within}
 use Rattle.rst_block_nodes.specs.declared.fault.BlockFault.{BlockFault}
 use Rattle.rst_block_nodes.specs.declared.fault.BlockFault.TheVariants.{TooDeep, NoMemory}
 use Rattle.rst_block_state.specs.declared.open_block.OpenBlock.{OpenBlock}
+use Rattle.rst_block_state.specs.declared.waits.OpenTable.{OpenTable}
 use Rattle.rst_block_state.specs.declared.waits.Waits.{Waits}
-use Rattle.rst_block_state.specs.declared.waits.Waits.TheVariants.{Element}
+use Rattle.rst_block_state.specs.declared.waits.Waits.TheVariants.{Element, Rows as WaitsForRows}
+use Rattle.std.specs.declared.alloc.Global.{Global}
 use Rattle.rst_block_state.specs.declared.step.Step.{Step}
 use Rattle.rst_block_state.specs.declared.step.Step.TheVariants.{Next, Open}
 use Rattle.rst_block_state.specs.declared.texts.Pass.{Pass}
@@ -96,38 +101,70 @@ closed_refused f NoMemory follows blocks h is = rw is (record { step = tt; read 
 pub text_is : {parts asked : Parts} {line at : ℕ} {t u : List ℕ} (literal : Bool) (read : Read) → parts ≡ asked → line ≡ at → t ≡ u → marked_text literal read parts line t ≡ marked_text literal read asked at u
 text_is {parts} {asked} {line} {at} {t} {u} literal read p l e = ap (λ x. marked_text literal read x line t) p ∙ ap (λ k. marked_text literal read asked k t) l ∙ ap (marked_text literal read asked at) e
 
+-- ---- what a block waits for
+
+-- a content that makes no table is held by the directive's element
+filled_as : (content : ContentKind) (options : List OptionSetting) (element : Node) (line : ℕ) (lines : List ℕ) (ns : List Node) → (content ≡ Rows → ⊥) → completed content options element line lines ns ≡ filled element ns ∷ []
+filled_as Rows options element line lines ns other = absurd (other refl)
+filled_as _ options element line lines ns other = refl
+
+pub element_waits : (f : Found) (start : ℕ) (element : Node) → (f.kind.content ≡ Rows → ⊥) → IsForContent f start element (Element element)
+element_waits f start element other = record {
+  one = tt;
+  waiting = λ B at. tt;
+  looks = omega arith;
+  made = λ l B ns. ap (λ (x : List Node). reads_from l B x l.at)
+      (sym (filled_as f.kind.content (choices_in f.options.items) element (first_number (drop start B)) (span_source B (record { start = start; stop = f.end })) ns other));
+}
+
+pub rows_wait : (f : Found) (start : ℕ) (element : Node) (asked : TableOptions) (boxed : Box OpenTable Global) → f.kind.content ≡ Rows → box_value boxed ≡ record { table = element; asked = asked; start = start; end = f.end }
+    → asked_in asked ≡ asked_of (choices_in f.options.items) → IsForContent f start element (WaitsForRows boxed)
+rows_wait f start element asked boxed is table same = record {
+  one = tt;
+  waiting = λ B at. tt;
+  looks = omega (arith, ap (λ (t : OpenTable). t.end - t.start) table);
+  made = λ l B ns.
+      let line : ℕ = first_number (drop start B) in
+      let lines : List ℕ = span_source B (record { start = start; stop = f.end }) in
+      let nodes : OpenTable → List Node = λ t. list_table_nodes (first_number (drop t.start B)) (span_source B (record { start = t.start; stop = t.end })) t.table (asked_in t.asked) ns in
+      ap (λ (x : List Node). reads_from l B x l.at)
+      (ap nodes table ∙ ap (λ (a : Asked). list_table_nodes line lines element a ns) same ∙ ap (λ k. completed k (choices_in f.options.items) element line lines ns) (sym is));
+}
+
 -- ---- what comes
 
-pub titled_comes : (old new : OpenBlock) (B : Block) (read : Read) (lines : Block) (end n m line at : ℕ) (node : Node) (s : Step)
-    → titled_start line read lines n ≡ Ok (node, m) → line ≡ at → s ≡ Open (Element node) read.content.first (Some read.content.second) → new.at ≡ end → IsMoved old new
-    → comes new B s m ≡ reads_with old B (titled_nodes (within_at old.depth) B at read lines) end n
-titled_comes old new B read lines end n m line at node s h l e a moved =
+pub titled_comes : (old new : OpenBlock) (B : Block) (read : Read) (heading : Block) (lines : List ℕ) (end n m line at : ℕ) (node : Node) (w : Waits) (s : Step)
+    → titled_start line read heading n ≡ Ok (node, m) → line ≡ at
+    → ((ns : List Node) → resumed new B w ns ≡ reads_from new B (completed read.kind.content read.options node at lines ns) new.at)
+    → s ≡ Open w read.content.first (Some read.content.second) → new.at ≡ end → IsMoved old new
+    → comes new B s m ≡ reads_with old B (titled_nodes (within_at old.depth) B at read heading lines) end n
+titled_comes old new B read heading lines end n m line at node w s h l waits e a moved =
     let c = within_at old.depth in
+    let start : titled_start at read heading n ≡ Ok (node, m) = ap (λ k. titled_start k read heading n) (sym l) ∙ h in
     ap (λ s. comes new B s m) e
-    ∙ content_comes B (Element node) read.content (λ ns. filled node ns ∷ []) m moved a (λ ns. refl)
-    ∙ ap (λ r. then_read (λ ns. reads_from old B ns end) (then_read (λ start. content_nodes c B read.content >>= λ ns. just (filled start ns ∷ [])) r)) (sym h)
-    ∙ ap (λ k. reads_with old B (titled_nodes c B k read lines) end n) l
+    ∙ content_comes B w read.content (completed read.kind.content read.options node at lines) m moved a waits
+    ∙ ap (λ r. then_read (λ ns. reads_from old B ns end) (then_read (λ start. content_nodes c B read.content >>= λ ns. just (completed read.kind.content read.options start at lines ns)) r)) (sym start)
 
--- a content that gets no classes is held by the directive's element
-pub held : (content : ContentKind) (empty : Bool) (element : Node) (lines : List ℕ) (ns : List Node) → ((class : QuoteClass) → content ≡ Quotes class → ⊥) → (content ≡ Classed → ⊥)
-    → holding content empty element lines ns ≡ filled element ns ∷ []
-held (Quotes class) empty element lines ns quotes classed = absurd (quotes class refl)
-held Classed empty element lines ns quotes classed = absurd (classed refl)
-held _ empty element lines ns quotes classed = refl
+-- a content that gets no classes is held by the directive's element, or makes a table
+pub held : (content : ContentKind) (options : List OptionSetting) (empty : Bool) (element : Node) (line : ℕ) (lines : List ℕ) (ns : List Node) → ((class : QuoteClass) → content ≡ Quotes class → ⊥) → (content ≡ Classed → ⊥)
+    → holding content options empty element line lines ns ≡ completed content options element line lines ns
+held (Quotes class) options empty element line lines ns quotes classed = absurd (quotes class refl)
+held Classed options empty element line lines ns quotes classed = absurd (classed refl)
+held _ options empty element line lines ns quotes classed = refl
 
 -- what `class` leaves
-pub class_held : (content : ContentKind) (empty given : Bool) (element : Node) (lines : List ℕ) (ns : List Node) → content ≡ Classed → empty ≡ given
-    → holding content empty element lines ns ≡ class_nodes given element lines ns
-class_held content empty given element lines ns is same =
-    ap (λ k. holding k empty element lines ns) is ∙ ap (λ b. class_nodes b element lines ns) same
+pub class_held : (content : ContentKind) (options : List OptionSetting) (empty given : Bool) (element : Node) (line : ℕ) (lines : List ℕ) (ns : List Node) → content ≡ Classed → empty ≡ given
+    → holding content options empty element line lines ns ≡ class_nodes given element lines ns
+class_held content options empty given element line lines ns is same =
+    ap (λ k. holding k options empty element line lines ns) is ∙ ap (λ b. class_nodes b element lines ns) same
 
 pub plain_comes : (old new : OpenBlock) (B : Block) (read : Read) (lines : List ℕ) (end n at : ℕ) (w : Waits) (s : Step)
-    → ((ns : List Node) → resumed new B w ns ≡ reads_from new B (holding read.kind.content (is_empty read.content) (directive_element read.kind.element read.argument read.options at) lines ns) new.at)
+    → ((ns : List Node) → resumed new B w ns ≡ reads_from new B (holding read.kind.content read.options (is_empty read.content) (directive_element read.kind.element read.argument read.options at) at lines ns) new.at)
     → s ≡ Open w read.content.first (Some read.content.second) → new.at ≡ end → IsMoved old new
     → comes new B s n ≡ reads_with old B (plain_nodes (within_at old.depth) B at read lines) end n
 plain_comes old new B read lines end n at w s waits e a moved =
     ap (λ s. comes new B s n) e
-    ∙ content_comes B w read.content (holding read.kind.content (is_empty read.content) (directive_element read.kind.element read.argument read.options at) lines) n moved a waits
+    ∙ content_comes B w read.content (holding read.kind.content read.options (is_empty read.content) (directive_element read.kind.element read.argument read.options at) at lines) n moved a waits
 
 -- ---- elements
 

@@ -1,6 +1,6 @@
 -- Explicit markup, step by step: what a block gives where its next line begins some, and directives as they are kept. No rule of markup.
 use Rattle.std.specs.declared.vec.Vec.{Vec}
-use Rattle.std.specs.Prelude.{◌≡◌, ℕ, ◌+◌, ◌-◌, ◌<◌, length, drop, unwrap_or, Bool, true, false, List, [], ◌∷◌, Option, Some, None, Result, Ok, IfOk, if◌then◌else◌}
+use Rattle.std.specs.Prelude.{◌≡◌, ℕ, ◌+◌, ◌-◌, ◌<◌, ◌≤◌, length, drop, unwrap_or, Bool, true, false, List, [], ◌∷◌, Option, Some, None, Result, Ok, IfOk, if◌then◌else◌}
 use Rattle.rst_settings.specs.declared.Parts.{Parts}
 use Rattle.rst_text.specs.Block.{Block, Line, first_number}
 use Rattle.rst_tree.specs.declared.node.Node.{Node}
@@ -15,15 +15,15 @@ use Rattle.rst_markup_directives.specs.declared.found.Place.TheVariants.{Top, Bo
 use Rattle.rst_markup_directives.specs.declared.kind.Kind.{Kind}
 use Rattle.rst_block_nodes.specs.Options.{with_options}
 use Rattle.rst_block_state.specs.Constructs.{explicit_markup}
-use Rattle.rst_block_state.specs.Directives.{content_nodes, opened_by, right_nodes}
+use Rattle.rst_block_state.specs.Directives.{completed, content_nodes, opened_by, right_nodes}
 use Rattle.rst_block_state.specs.Figures.{Beginning, caption, no_caption, neither}
 use Rattle.rst_block_state.specs.Inside.{content_blocks, directive_content}
-use Rattle.rst_block_state.specs.looks.Ledger.{Opens, argument_lines}
-use Rattle.rst_block_state.specs.machine.Meanings.{Keeps, comes, open_run_of, within_at, done_of, reads_from}
+use Rattle.rst_block_state.specs.looks.Ledger.{Opens, WaitsForOne, argument_lines, waiting_looks}
+use Rattle.rst_block_state.specs.machine.Meanings.{Keeps, comes, open_run_of, resumed, within_at, done_of, reads_from}
 use Rattle.rst_block_state.specs.Numbered.{Numbered, ◌>>=◌, just, before}
 use Rattle.rst_block_state.specs.machine.Rest.{OpenRun, open_markup, rest_with}
 use Rattle.rst_block_state.specs.machine.RestLaws.{found_as}
-use Rattle.rst_block_state.specs.machine.Steps.{IsStep}
+use Rattle.rst_block_state.specs.machine.Steps.{IsStep, IsWaiting}
 use Rattle.rst_block_state.specs.Texts.{span_source, texted}
 use Rattle.rst_block_state.specs.Titles.{Item}
 use Rattle.rst_block_state.specs.Within.{Within}
@@ -37,6 +37,7 @@ use Rattle.rst_block_state.specs.LineRuns.{verse_line}
 use Rattle.rst_block_state.specs.declared.open_block.OpenBlock.{OpenBlock}
 use Rattle.rst_block_state.specs.declared.step.Step.{Step}
 use Rattle.rst_block_state.specs.declared.texts.Pass.{Pass}
+use Rattle.rst_block_state.specs.declared.waits.Waits.{Waits}
 
 -- the open run is explicit markup
 abbrev pub is_markup : OpenRun → Bool
@@ -101,6 +102,16 @@ IsOpenedRead few B old before f given new after result =
     let lines = span_source B (record { start = old.at; stop = f.end }) in
     let nodes = opened_by given (within_at old.depth) B (first_number (drop old.at B)) (read_of_directive f) lines in
     IsPartRead few B old before nodes (content_blocks B f.content) f.end new after result
+
+-- A block waits for the content of a directive that starts at this place, whose element it has. It looks at most at the directive's lines, and makes
+-- of the nodes what the directive does.
+pub record IsForContent (found : Found) (start : ℕ) (element : Node) (waits : Waits) : Type 0 where
+  pub one : WaitsForOne waits
+  pub waiting : (B : Block) (at : ℕ) → IsWaiting B at waits
+  pub looks : waiting_looks waits ≤ found.end - start
+  pub made : (l : OpenBlock) (B : Block) (ns : List Node) →
+      let lines = span_source B (record { start = start; stop = found.end }) in
+      resumed l B waits ns ≡ reads_from l B (completed found.kind.content (choices_in found.options.items) element (first_number (drop start B)) lines ns) l.at
 
 -- how many lines the argument and the content of a directive have
 abbrev pub text_lines : Found → ℕ

@@ -8,7 +8,7 @@ ghost use Rattle.rst_markup_directives.specs.Argument as given;
 ghost use Rattle.rst_markup_directives.specs.Directive as directives;
 ghost use Rattle.rst_markup_directives.specs.Wrong.{fault_in};
 ghost use Rattle.rst_block_state.specs.Directives as meaning;
-ghost use Rattle.rst_block_markup.specs.MarkupSteps.{IsDirectiveRead, IsOpenedRead, IsPartRead, IsRight, place_in, text_lines, read_of_directive};
+ghost use Rattle.rst_block_markup.specs.MarkupSteps.{IsDirectiveRead, IsForContent, IsOpenedRead, IsPartRead, IsRight, place_in, text_lines, read_of_directive};
 ghost use Rattle.rst_block_state.specs.machine.Meanings.{within_at};
 ghost use Rattle.rst_markup_directives.specs.Call.{IsArgumentIn, IsDirectiveIn};
 ghost use Rattle.rst_markup_directives.specs.declared.found.Place.{Place};
@@ -27,11 +27,11 @@ use super::explicit::put;
 use super::single::is_single_paragraph;
 use rst_block_nodes::{
     append, directive_element, figure, filled, handed_directive, image, message, subtitle,
-    with_text, with_title_class,
+    table_options, with_text, with_title_class,
 };
 use rst_block_state::{
-    OpenBlock, Pass, Result, Step, Waits, alone, excerpt, first_line_or, inside, joined, number_at,
-    source,
+    OpenBlock, OpenTable, Pass, Result, Step, Waits, alone, excerpt, first_line_or, inside, joined,
+    number_at, source,
 };
 use rst_markup_blocks::{Invocation, Part};
 use rst_markup_directives::{
@@ -40,7 +40,7 @@ use rst_markup_directives::{
 };
 use rst_text::{Looks, View};
 use rst_tree::{Node, Tag};
-use std::alloc::Global;
+use std::alloc::{AllocError, Global};
 
 /// What a directive is, where `place` is its place.
 pub(crate) fn directive_at(
@@ -242,7 +242,7 @@ fn directive_nodes(
     }
 }
 
-/// An admonition, a topic or a sidebar: its title, and then its content.
+/// An admonition, a topic, a sidebar or a table: its title, and then its content.
 fn titled_block(
     view: &View<'_>,
     level: &mut OpenBlock,
@@ -252,13 +252,14 @@ fn titled_block(
 ) -> Result<Step>
     requires right { IsRight (block_of view.now) level.old.at found.now }
     requires title { IsBlock (block_of view.now) title }
-    ensures { let few = title.to - title.from in
+    ensures { let few = (title.to - title.from) + (found.now.end - level.old.at) in
         IsOpenedRead few (block_of view.now) level.old pass.old found.now (given.title title) level.new pass.new result }
 {
     let line = number_at(view, level.at);
     let lines = inside(view, title);
     let node = titled_start(&lines, line, found, pass)?;
-    Ok(opened(level, Waits::Element(node), found))
+    let waits = content_waits(pass.alloc, level.at, node, found)?;
+    Ok(opened(level, waits, found))
 }
 
 /// What a directive in a line begins with that has a title in these lines: the title, the subtitle that its options may give, and
@@ -318,7 +319,31 @@ fn plain_block(
     let element = found.kind.element;
     let options = found.options.as_slice();
     let node = directive_element(pass.alloc, element, &found.argument, options, line)?;
-    Ok(opened(level, Waits::Element(node), found))
+    let waits = content_waits(pass.alloc, level.at, node, found)?;
+    Ok(opened(level, waits, found))
+}
+
+/// What a block waits for that has the element of a directive: the element's content, or the rows of a table.
+fn content_waits(
+    alloc: Global,
+    start: usize,
+    element: Node,
+    found: &Found,
+) -> Result<Waits, AllocError>
+    ensures { IfOk result (IsForContent found.now start element) }
+{
+    match found.kind.content {
+        ContentKind::Rows => {
+            let table = OpenTable {
+                table: element,
+                asked: table_options(alloc, found.options.as_slice())?,
+                start,
+                end: found.end,
+            };
+            Ok(Waits::Rows(Box::new(alloc, table)?))
+        }
+        _ => Ok(Waits::Element(element)),
+    }
 }
 
 /// A figure with its image.

@@ -10,3 +10,4 @@ pub mod ReadingBridges
 pub mod SectionLemmas
 pub mod FormulaLemmas
 pub mod ContentsLemmas
+pub mod ListTableLemmas

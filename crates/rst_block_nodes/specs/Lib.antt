@@ -10,6 +10,7 @@ pub mod Terms
 pub mod Numbered
 pub mod Readings
 pub mod TableOfContents
+pub mod ListTables
 pub mod LineBlocks
 pub mod Whole
 pub mod Sections

@@ -21,7 +21,8 @@ use Rattle.rst_markup_directives.specs.Argument.{ArgumentMeaning, language, form
 use Rattle.rst_markup_directives.specs.Contents.{backlinks_name}
 use Rattle.rst_markup_directives.specs.Options.{OptionSetting}
 use Rattle.rst_markup_directives.specs.Target.{Destination, named, located}
-use Rattle.rst_markup_directives.specs.Value.{Meaning, plain, measured, numbered, placed, classed, linked, called, led_back}
+use Rattle.rst_markup_directives.specs.Value.{Meaning, plain, measured, numbered, placed, classed, linked, called, led_back, sized}
+use Rattle.rst_markup_directives.specs.Widths.{columns_class}
 use Rattle.rst_markup_directives.specs.declared.measure.Alignment.{Alignment}
 use Rattle.rst_markup_directives.specs.declared.measure.Alignment.TheVariants.{Top, Middle, Bottom, Left, Center, Right}
 use Rattle.rst_markup_directives.specs.declared.option.OptionName.{OptionName}
@@ -32,7 +33,8 @@ use Rattle.rst_block_nodes.specs.Elements.{element_of, preserving, text_nodes}
 
 -- ---- options as attributes
 
--- the attribute that an option gives an element; the alignment of an image in a figure is the figure's
+-- the attribute that an option gives an element; the alignment of an image in a figure is the figure's. Of elements with a body tables alone have a
+-- width and an alignment.
 abbrev pub option_key : Holder → OptionName → Option Key
 option_key Figure AlignOption = Some Align
 option_key Figure FigureWidth = Some Width
@@ -45,6 +47,8 @@ option_key Entries _ = None
 option_key _ ClassOption = Some Classes
 option_key Further _ = None
 option_key _ NameOption = Some OwnName
+option_key Body WidthOption = Some Width
+option_key Body AlignOption = Some Align
 option_key Body _ = None
 option_key _ AltOption = Some Alt
 option_key _ HeightOption = Some Height
@@ -72,6 +76,7 @@ value_meant (classed ids) = Listed (map encode_utf8_all ids)
 value_meant (linked to source) = TextValue (encode_utf8_all source)
 value_meant (called name) = TextValue (encode_utf8_all name)
 value_meant (led_back backlinks) = TextValue (backlinks_name backlinks)
+value_meant (sized columns) = TextValue (columns_class columns)
 
 -- attributes with a value, if there is a key for it
 abbrev pub with_value_at : Option Key → Value → List Attr → List Attr

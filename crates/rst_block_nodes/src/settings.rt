@@ -18,7 +18,7 @@ pub(crate) enum Holder {
     FigureImage,
     /// A figure.
     Figure,
-    /// An admonition, a topic, or a literal block.
+    /// An admonition, a topic, a literal block, or a table, which alone has a width and an alignment.
     Body,
     /// A further element of one directive, which doesn't get the name.
     Further,
@@ -48,6 +48,8 @@ pub(crate) fn set_options(
             (_, OptionName::Class) => Key::Classes,
             (Holder::Further, _) => continue,
             (_, OptionName::Name) => Key::OwnName,
+            (Holder::Body, OptionName::Width) => Key::Width,
+            (Holder::Body, OptionName::Align) => Key::Align,
             (Holder::Body, _) => continue,
             (_, OptionName::Alt) => Key::Alt,
             (_, OptionName::Height) => Key::Height,
@@ -79,6 +81,7 @@ fn value_of(alloc: Global, value: &OptionValue) -> Result<Value>
         OptionValue::Classes(classes) => list_of_texts(alloc, classes),
         OptionValue::Link { source, .. } => text_value(alloc, source.as_str()),
         OptionValue::Name(name) => text_value(alloc, name.as_str()),
+        OptionValue::Widths(widths) => text_value(alloc, widths.class()),
         OptionValue::Backlinks(backlinks) => text_value(alloc, backlinks.name()),
     }
 }

@@ -1,6 +1,6 @@
 -- Directives, and substitution definitions, which hold directives (Markup Specification, 'Directives', 'Substitution Definitions'; Directives,
 -- 'Admonitions', 'Images', 'Topic', 'Sidebar', 'Epigraph', 'Highlights', 'Pull-Quote', 'Code', 'Rubric', 'Parsed Literal Block', 'Line Block', 'Math',
--- 'Raw Data Pass-Through', 'Compound Paragraph', 'Container', 'Table of Contents', 'Class', 'Replacement Text').
+-- 'Raw Data Pass-Through', 'Compound Paragraph', 'Container', 'Table of Contents', 'List Table', 'Class', 'Replacement Text').
 use Rattle.std.specs.Prelude.{ℕ, Bool, true, false, List, [], ◌∷◌, ◌++◌, map, drop, codes, Option, Some, None, encode_utf8_all, if◌then◌else◌}
 use Rattle.rst_settings.specs.Parts.{hands_directive}
 use Rattle.rst_settings.specs.declared.Parts.{Parts}
@@ -20,12 +20,13 @@ use Rattle.rst_markup_directives.specs.Call.{is_empty}
 use Rattle.rst_markup_directives.specs.Directive.{Read, Outcome, found, handed, wrong, directive_at}
 use Rattle.rst_markup_directives.specs.Kind.{has_blocks, quote_class}
 use Rattle.rst_markup_directives.specs.Message.{fault_level, fault_text}
+use Rattle.rst_markup_directives.specs.Options.{OptionSetting}
 use Rattle.rst_markup_directives.specs.Wrong.{Fault, not_in_substitution}
 use Rattle.rst_markup_directives.specs.declared.found.Content.{Content}
 use Rattle.rst_markup_directives.specs.declared.found.Place.{Place}
 use Rattle.rst_markup_directives.specs.declared.found.Place.TheVariants.{Top, Body, Substitution}
 use Rattle.rst_markup_directives.specs.declared.kind.ContentKind.{ContentKind}
-use Rattle.rst_markup_directives.specs.declared.kind.ContentKind.TheVariants.{Marked, Verse, Formulas, Classed, Quotes, Entries}
+use Rattle.rst_markup_directives.specs.declared.kind.ContentKind.TheVariants.{Marked, Verse, Formulas, Classed, Quotes, Entries, Rows}
 use Rattle.rst_markup_directives.specs.declared.kind.QuoteClass.{QuoteClass}
 use Rattle.rst_block_nodes.specs.Admonitions.{with_title_class}
 use Rattle.rst_block_nodes.specs.Elements.{substitution_definition_node, text_nodes}
@@ -33,10 +34,12 @@ use Rattle.rst_block_nodes.specs.Formulas.{formulas}
 use Rattle.rst_block_nodes.specs.TableOfContents.{table_of_contents}
 use Rattle.rst_block_nodes.specs.Targets.{may_replace}
 use Rattle.rst_block_nodes.specs.Values.{normalized, unescaped}
+use Rattle.rst_block_nodes.specs.ListTables.{asked_of}
 use Rattle.rst_block_nodes.specs.Sections.{filled}
 use Rattle.rst_block_nodes.specs.Options.{directive_element, figure_element, handed_directive_node, image_element, literal_element, subtitle_chosen, with_options}
 use Rattle.rst_block_nodes.specs.Readings.{subtitled}
 use Rattle.rst_block_state.specs.Figures.{caption_error, figure_nodes}
+use Rattle.rst_block_state.specs.ListTables.{list_table_nodes}
 use Rattle.rst_block_state.specs.LineRuns.{line_block, number_or, verse_lines}
 use Rattle.rst_block_state.specs.Numbered.{Numbered, ◌>>=◌, just}
 use Rattle.rst_block_state.specs.Paragraphs.{is_single_paragraph}
@@ -83,12 +86,18 @@ titled_start line read lines = do
   more ← subtitled (first_parts lines) (subtitle_chosen read.options) line
   just (filled (titled_element read.kind.element (directive_element read.kind.element read.argument read.options line) made.0) (made.0 ∷ more.0 ++ made.1 ++ more.1))
 
+-- The element of a directive, which may begin with its title, with the nodes of its content after that; or the table that these make. An ERROR on
+-- this shows these lines.
+abbrev pub completed : ContentKind → List OptionSetting → Node → ℕ → List ℕ → List Node → List Node
+completed Rows options element line lines nodes = list_table_nodes line lines element (asked_of options) nodes
+completed _ options element line lines nodes = filled element nodes ∷ []
+
 -- a directive with a title, and its content
-abbrev pub titled_nodes : Within → Block → ℕ → Read → Block → Numbered (List Node)
-titled_nodes c B line read lines = do
-  start ← titled_start line read lines
+abbrev pub titled_nodes : Within → Block → ℕ → Read → Block → List ℕ → Numbered (List Node)
+titled_nodes c B line read heading lines = do
+  start ← titled_start line read heading
   nodes ← content_nodes c B read.content
-  just (filled start nodes ∷ [])
+  just (completed read.kind.content read.options start line lines nodes)
 
 -- a block quote with the class of its directive; another node stays as it is
 abbrev pub classed : QuoteClass → Node → Node
@@ -105,18 +114,18 @@ with_words words node = with_classes words node
 abbrev pub class_nodes : Bool → Node → List ℕ → List Node → List Node
 class_nodes empty element lines nodes = if empty then filled (filled element (text_nodes lines)) nodes ∷ [] else map (with_words (classes_of element)) nodes
 
--- the element of a directive with the nodes of its content; or these nodes alone, the block quotes among them with their class, or all of them with
--- the words of `class`
-abbrev pub holding : ContentKind → Bool → Node → List ℕ → List Node → List Node
-holding (Quotes class) empty element lines nodes = map (classed class) nodes
-holding Classed empty element lines nodes = class_nodes empty element lines nodes
-holding _ empty element lines nodes = filled element nodes ∷ []
+-- the element of a directive in a line with the nodes of its content; or these nodes alone, the block quotes among them with their class, or all of
+-- them with the words of `class`
+abbrev pub holding : ContentKind → List OptionSetting → Bool → Node → ℕ → List ℕ → List Node → List Node
+holding (Quotes class) options empty element line lines nodes = map (classed class) nodes
+holding Classed options empty element line lines nodes = class_nodes empty element lines nodes
+holding content options empty element line lines nodes = completed content options element line lines nodes
 
 -- a directive without a title, with these lines, and its content
 abbrev pub plain_nodes : Within → Block → ℕ → Read → List ℕ → Numbered (List Node)
 plain_nodes c B line read lines = do
   nodes ← content_nodes c B read.content
-  just (holding read.kind.content (is_empty read.content) (directive_element read.kind.element read.argument read.options line) lines nodes)
+  just (holding read.kind.content read.options (is_empty read.content) (directive_element read.kind.element read.argument read.options line) line lines nodes)
 
 -- a figure: its image, and its content as caption and legend; an ERROR on it shows these lines
 abbrev pub figure_of : Within → Block → ℕ → Read → List ℕ → List ℕ → Numbered (List Node)
@@ -137,7 +146,7 @@ marked_nodes parts literal line read lines = do
 
 -- a directive whose content is blocks, by its argument: a title, the URI of a figure's image, or another or none
 abbrev pub opened_by : ArgumentMeaning → Within → Block → ℕ → Read → List ℕ → Numbered (List Node)
-opened_by (title part) c B line read lines = titled_nodes c B line read (lines_in B part)
+opened_by (title part) c B line read lines = titled_nodes c B line read (lines_in B part) lines
 opened_by (uri address) c B line read lines = figure_of c B line read (encode_utf8_all address) lines
 opened_by _ c B line read lines = plain_nodes c B line read lines
 

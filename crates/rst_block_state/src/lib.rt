@@ -27,4 +27,4 @@ pub use texts::{
     Pass, alone, characters, excerpt, excerpt_after, first_line_or, joined, lines_between,
     number_at, push, source, split_nodes,
 };
-pub use waits::{OpenReplacement, Waits};
+pub use waits::{OpenReplacement, OpenTable, Waits};

@@ -6,6 +6,7 @@ pub mod contents;
 pub mod directives;
 pub mod explicit;
 pub mod handed;
+pub mod list_tables;
 pub mod lists;
 pub mod sections;
 pub mod tables;

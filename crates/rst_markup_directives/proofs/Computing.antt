@@ -20,5 +20,6 @@ unfolding
     Rattle.rst_markup_directives.specs.Target.is_simple_reference Rattle.rst_markup_directives.specs.Target.is_phrase
     Rattle.rst_markup_directives.specs.Target.phrase_in Rattle.rst_markup_directives.specs.Target.is_phrase_reference
     Rattle.rst_markup_directives.specs.Target.destination_in Rattle.rst_markup_directives.specs.Target.target_value
-    Rattle.rst_markup_directives.specs.Value.ids_of
+    Rattle.rst_markup_directives.specs.Value.ids_of Rattle.rst_markup_directives.specs.Widths.width_of
+    Rattle.rst_markup_directives.specs.Widths.widths_in Rattle.rst_markup_directives.specs.Widths.columns_of
 rst_markup_directives = tt

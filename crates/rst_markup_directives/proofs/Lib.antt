@@ -7,6 +7,7 @@ pub mod FieldLemmas
 pub mod Parts
 pub mod BlockReads
 pub mod ChoiceLemmas
+pub mod WidthLemmas
 pub mod DirectiveParts
 pub mod Bare
 pub mod Indentations

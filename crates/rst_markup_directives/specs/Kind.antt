@@ -1,9 +1,9 @@
 -- The directives: their names, what they take, where they are allowed, and which part of the profile has them (Directives, 'Specific
 -- Admonitions', 'Generic Admonition', 'Topic', 'Rubric', 'Image', 'Figure', 'Code', 'Parsed Literal Block', 'Raw Data Pass-Through', 'Including an
--- External Document Fragment', 'Compound Paragraph', 'Container', 'Class', 'Line Block', 'Math', 'Table of Contents', 'Replacement Text', 'Common Options'; Markup
--- Specification, 'Substitution Definitions').
+-- External Document Fragment', 'Compound Paragraph', 'Container', 'Class', 'Line Block', 'Math', 'Table of Contents', 'List Table', 'Replacement Text', 'Common
+-- Options'; Markup Specification, 'Substitution Definitions').
 use Prim.Native.String.{String}
-use Rattle.std.specs.Prelude.{ℕ, Bool, true, false, not, List, [], ◌∷◌, codes, Option, Some, None, option_and_then, if◌then◌else◌}
+use Rattle.std.specs.Prelude.{ℕ, Bool, true, false, not, ◌&&◌, List, [], ◌∷◌, codes, Option, Some, None, option_and_then, if◌then◌else◌}
 use Rattle.std.specs.List.{list_any}
 use Rattle.std.specs.Option.{option_map_or}
 use Rattle.std.specs.Str.{str_eq_ignore_ascii_case}
@@ -16,16 +16,16 @@ use Rattle.rst_markup_directives.specs.declared.kind.Allowed.TheVariants.{Body, 
 use Rattle.rst_markup_directives.specs.declared.kind.ArgumentKind.{ArgumentKind}
 use Rattle.rst_markup_directives.specs.declared.kind.ArgumentKind.TheVariants.{Absent, Title, OptionalTitle, Uri, Language, Formats, Classes, OptionalClasses}
 use Rattle.rst_markup_directives.specs.declared.kind.ContentKind.{ContentKind}
-use Rattle.rst_markup_directives.specs.declared.kind.ContentKind.TheVariants.{Empty as NoContent, Lines, Marked, Verse, Formulas, Blocks, Paragraph, Caption, Classed, Quotes, Entries}
+use Rattle.rst_markup_directives.specs.declared.kind.ContentKind.TheVariants.{Empty as NoContent, Lines, Marked, Verse, Formulas, Blocks, Paragraph, Caption, Classed, Quotes, Entries, Rows}
 use Rattle.rst_markup_directives.specs.declared.kind.Kind.{Kind}
 use Rattle.rst_markup_directives.specs.declared.kind.OptionSet.{OptionSet}
-use Rattle.rst_markup_directives.specs.declared.kind.OptionSet.TheVariants.{Empty as NoOptions, Common, NameAlone, Sidebar as SidebarOptions, Raw as RawOptions, Include, Image, Figure, Contents}
+use Rattle.rst_markup_directives.specs.declared.kind.OptionSet.TheVariants.{Empty as NoOptions, Common, NameAlone, Sidebar as SidebarOptions, Raw as RawOptions, Include, Image, Figure, Contents, ListTable}
 use Rattle.rst_markup_directives.specs.declared.kind.PartName.{PartName}
 use Rattle.rst_markup_directives.specs.declared.kind.QuoteClass.{QuoteClass}
 use Rattle.rst_markup_directives.specs.declared.kind.QuoteClass.TheVariants.{Epigraph, Highlights, PullQuote}
 use Rattle.rst_markup_directives.specs.declared.kind.PartName.TheVariants.{Usual, Code, Wider}
 use Rattle.rst_markup_directives.specs.declared.option.OptionName.{OptionName}
-use Rattle.rst_markup_directives.specs.declared.option.OptionName.TheVariants.{Class, Name, FigureWidth, FigureClass, Subtitle, File, Url, Inclusion, Depth, Local, Backlinks}
+use Rattle.rst_markup_directives.specs.declared.option.OptionName.TheVariants.{Class, Name, Width, Align, FigureWidth, FigureClass, Subtitle, File, Url, Inclusion, Depth, Local, Backlinks, HeaderRows, StubColumns, Widths}
 
 -- a directive by its element, its argument, its options, its content, and where it is allowed
 abbrev pub kind : Tag → ArgumentKind → OptionSet → ContentKind → Allowed → Kind
@@ -74,6 +74,7 @@ directives =
     ∷ row "line-block" Wider tag.LineBlock Absent Common Verse Body
     ∷ row "math" Wider tag.MathBlock Absent Common Formulas Body
     ∷ row "contents" Wider tag.Topic OptionalTitle Contents Entries Beside
+    ∷ row "list-table" Wider tag.Table OptionalTitle ListTable Rows Body
     ∷ []
 
 -- a part of the profile is on; `code` is true if the directive for program code is
@@ -122,8 +123,15 @@ is_of_contents Local = true
 is_of_contents Backlinks = true
 is_of_contents _ = false
 
--- none, `class` and `name`, `name` alone, those of a sidebar, those of raw data, those of a file's inclusion, those of a table of contents, those of an
--- image, or these and those of a figure
+-- the option is one of a table made of lists alone
+abbrev pub is_of_tables : OptionName → Bool
+is_of_tables HeaderRows = true
+is_of_tables StubColumns = true
+is_of_tables Widths = true
+is_of_tables _ = false
+
+-- none, `class` and `name`, `name` alone, those of a sidebar, those of raw data, those of a file's inclusion, those of a table of contents, those of a
+-- table made of lists, those of an image, or these and those of a figure
 abbrev pub has_option : OptionSet → OptionName → Bool
 has_option NoOptions option = false
 has_option Common Class = true
@@ -143,17 +151,23 @@ has_option Include Inclusion = true
 has_option Include _ = false
 has_option Contents Class = true
 has_option Contents option = is_of_contents option
+has_option ListTable Class = true
+has_option ListTable Name = true
+has_option ListTable Width = true
+has_option ListTable Align = true
+has_option ListTable option = is_of_tables option
 has_option _ Subtitle = false
 has_option _ File = false
 has_option _ Url = false
 has_option _ Inclusion = false
 has_option Image FigureWidth = false
 has_option Image FigureClass = false
-has_option _ option = not (is_of_contents option)
+has_option _ option = not (is_of_contents option) && not (is_of_tables option)
 
--- a figure alone may not be aligned vertically
+-- a figure may not be aligned vertically, nor a table
 abbrev pub has_vertical : OptionSet → Bool
 has_vertical Figure = false
+has_vertical ListTable = false
 has_vertical _ = true
 
 -- ---- content
@@ -189,4 +203,5 @@ has_blocks (Quotes class) = true
 has_blocks Paragraph = true
 has_blocks Caption = true
 has_blocks Classed = true
+has_blocks Rows = true
 has_blocks _ = false

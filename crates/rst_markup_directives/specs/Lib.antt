@@ -7,6 +7,7 @@ pub mod Kind
 pub mod Lines
 pub mod Layout
 pub mod Target
+pub mod Widths
 pub mod Value
 pub mod Wrong
 pub mod Options

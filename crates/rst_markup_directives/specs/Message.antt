@@ -2,7 +2,7 @@
 use Rattle.std.specs.Prelude.{ℕ, List, ◌++◌, codes, encode_utf8_all}
 use Rattle.rst_tree.specs.declared.note.Level.{Level}
 use Rattle.rst_tree.specs.declared.note.Level.TheVariants.{Warning, Error}
-use Rattle.rst_markup_directives.specs.Wrong.{Wrong, option_block, unknown, duplicate, invalid, no_argument, many_arguments, content_not_permitted, not_one_paragraph, Fault, not_in_substitution, unknown_directive, inside, no_content, topic_not_here, sidebar_not_here, lone_subtitle, replace_not_here, disabled, invalid_classes}
+use Rattle.rst_markup_directives.specs.Wrong.{Wrong, option_block, unknown, duplicate, invalid, no_argument, many_arguments, content_not_permitted, not_one_paragraph, Fault, not_in_substitution, unknown_directive, inside, no_content, no_rows, topic_not_here, sidebar_not_here, lone_subtitle, replace_not_here, disabled, invalid_classes}
 
 -- the second line of the message on a directive in which something is wrong
 abbrev pub wrong_text : Wrong → List ℕ
@@ -25,6 +25,7 @@ fault_text not_in_substitution name = codes "Substitution definition \"" ++ name
 fault_text unknown_directive name = codes "Unknown directive type \"" ++ name ++ codes "\"."
 fault_text (inside wrong) name = codes "Error in \"" ++ name ++ codes "\" directive:\n" ++ wrong_text wrong
 fault_text no_content name = codes "Content block expected for the \"" ++ name ++ codes "\" directive; none found."
+fault_text no_rows name = codes "The \"" ++ name ++ codes "\" directive is empty; content required."
 fault_text topic_not_here name = codes "The \"topic\" directive may not be used within topics or body elements."
 fault_text sidebar_not_here name = codes "The \"" ++ name ++ codes "\" directive may not be used within topics or body elements."
 fault_text lone_subtitle name = codes "The \"subtitle\" option may not be used without a title."

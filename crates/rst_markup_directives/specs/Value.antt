@@ -1,4 +1,4 @@
--- What the values of options mean (Directives, 'Common Options', 'Image', 'Figure', 'Table of Contents').
+-- What the values of options mean (Directives, 'Common Options', 'Image', 'Figure', 'Table of Contents', 'List Table').
 use Rattle.std.specs.Prelude.{ℕ, true, false, List, [], ◌∷◌, map, Option, Some, None, option_map, if◌then◌else◌}
 use Rattle.std.specs.List.{list_any}
 use Rattle.std.specs.declared.string.String.{String}
@@ -9,14 +9,15 @@ use Rattle.rst_markup_directives.specs.Characters.{Text}
 use Rattle.rst_markup_directives.specs.Contents.{backlinks_of, depth_of}
 use Rattle.rst_markup_directives.specs.Measure.{measure_of, scale_of, alignment_of}
 use Rattle.rst_markup_directives.specs.Kind.{has_vertical}
+use Rattle.rst_markup_directives.specs.Widths.{Columns, columns_of, columns_in}
 use Rattle.rst_markup_directives.specs.Target.{Destination, destination_of, target_value}
 use Rattle.rst_markup_directives.specs.declared.contents.Backlinks.{Backlinks}
 use Rattle.rst_markup_directives.specs.declared.measure.Alignment.{Alignment}
 use Rattle.rst_markup_directives.specs.declared.kind.OptionSet.{OptionSet}
 use Rattle.rst_markup_directives.specs.declared.option.OptionName.{OptionName}
-use Rattle.rst_markup_directives.specs.declared.option.OptionName.TheVariants.{Alt, Height, Width, Scale, Align, Target, Class, Name as NameOption, FigureWidth, FigureClass, Subtitle, File, Url, Inclusion, Depth, Local, Backlinks as BacklinksOption}
+use Rattle.rst_markup_directives.specs.declared.option.OptionName.TheVariants.{Alt, Height, Width, Scale, Align, Target, Class, Name as NameOption, FigureWidth, FigureClass, Subtitle, File, Url, Inclusion, Depth, Local, Backlinks as BacklinksOption, HeaderRows, StubColumns, Widths as WidthsOption}
 use Rattle.rst_markup_directives.specs.declared.value.OptionValue.{OptionValue}
-use Rattle.rst_markup_directives.specs.declared.value.OptionValue.TheVariants.{Text as TextValue, Measure, Number, Place, Classes, Link, Name as NameValue, Backlinks as BacklinksValue}
+use Rattle.rst_markup_directives.specs.declared.value.OptionValue.TheVariants.{Text as TextValue, Measure, Number, Place, Classes, Link, Name as NameValue, Backlinks as BacklinksValue, Widths as WidthsValue}
 
 -- the meaning of a value
 pub data Meaning : Type 0 where
@@ -28,6 +29,7 @@ pub data Meaning : Type 0 where
   linked : Destination → Text → Meaning
   called : Text → Meaning
   led_back : Backlinks → Meaning
+  sized : Columns → Meaning
 
 -- ---- classes
 
@@ -69,6 +71,9 @@ option_meaning options Inclusion t = Some (plain t)
 option_meaning options Depth t = option_map numbered (depth_of t)
 option_meaning options Local t = option_map numbered (one_if_empty t)
 option_meaning options BacklinksOption t = option_map led_back (backlinks_of t)
+option_meaning options HeaderRows t = option_map numbered (depth_of t)
+option_meaning options StubColumns t = option_map numbered (depth_of t)
+option_meaning options WidthsOption t = option_map sized (columns_of t)
 
 -- ---- as they are kept
 
@@ -86,3 +91,4 @@ meaning_of (Classes ids) = classed (chars_of_texts ids.items)
 meaning_of (Link to source) = linked (destination_of to) (chars_of source)
 meaning_of (NameValue name) = called (chars_of name)
 meaning_of (BacklinksValue backlinks) = led_back backlinks
+meaning_of (WidthsValue widths) = sized (columns_in widths)

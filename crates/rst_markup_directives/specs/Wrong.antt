@@ -5,7 +5,7 @@ use Rattle.rst_markup_directives.specs.Characters.{Text}
 use Rattle.rst_markup_directives.specs.declared.fault.Detail.{Detail}
 use Rattle.rst_markup_directives.specs.declared.fault.Detail.TheVariants.{InvalidOptionBlock, UnknownOption, DuplicateOption, InvalidValue, NoArgument, ManyArguments, ContentNotPermitted, NotOneParagraph}
 use Rattle.rst_markup_directives.specs.declared.fault.DirectiveFault.{DirectiveFault}
-use Rattle.rst_markup_directives.specs.declared.fault.DirectiveFault.TheVariants.{NotInSubstitution, Unknown, Inside, NoContent, TopicNotHere, SidebarNotHere, LoneSubtitle, ReplaceNotHere, Disabled, InvalidClasses}
+use Rattle.rst_markup_directives.specs.declared.fault.DirectiveFault.TheVariants.{NotInSubstitution, Unknown, Inside, NoContent, TopicNotHere, SidebarNotHere, LoneSubtitle, ReplaceNotHere, Disabled, InvalidClasses, NoRows}
 
 -- what is wrong inside a directive; an option's name is given as it is written
 pub data Wrong : Type 0 where
@@ -34,6 +34,7 @@ pub data Fault : Type 0 where
   unknown_directive : Fault
   inside : Wrong → Fault
   no_content : Fault
+  no_rows : Fault
   topic_not_here : Fault
   sidebar_not_here : Fault
   lone_subtitle : Fault
@@ -60,6 +61,7 @@ fault_in NotInSubstitution = not_in_substitution
 fault_in Unknown = unknown_directive
 fault_in (Inside detail) = inside (wrong_in detail)
 fault_in NoContent = no_content
+fault_in NoRows = no_rows
 fault_in TopicNotHere = topic_not_here
 fault_in SidebarNotHere = sidebar_not_here
 fault_in LoneSubtitle = lone_subtitle

@@ -11,6 +11,8 @@ pub enum DirectiveFault {
     Inside(Detail),
     /// The content is missing.
     NoContent,
+    /// The lists that a table is made of are missing.
+    NoRows,
     /// A topic in a body element or in a topic.
     TopicNotHere,
     /// A sidebar or a table of contents there.

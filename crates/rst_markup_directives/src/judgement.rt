@@ -65,6 +65,7 @@ pub(crate) fn content_fault(
             | ContentKind::Paragraph,
             true,
         ) => Some(DirectiveFault::NoContent),
+        (ContentKind::Rows, true) => Some(DirectiveFault::NoRows),
         (ContentKind::Paragraph, false) if !paragraph => {
             Some(DirectiveFault::Inside(Detail::NotOneParagraph))
         }

@@ -54,6 +54,8 @@ pub enum OptionSet {
     Include,
     /// `class`, and those of a table of contents alone.
     Contents,
+    /// `class`, `name`, `width`, `align`, and those of a table made of lists alone.
+    ListTable,
     /// Those of an image.
     Image,
     /// Those of an image, and those of a figure alone.
@@ -84,6 +86,8 @@ pub enum ContentKind {
     Entries,
     /// Body elements, which get the class names, or nothing.
     Classed,
+    /// A list of the rows of a table, each a list of its cells.
+    Rows,
 }
 
 /// The class of block quotes that a directive makes.
@@ -144,7 +148,7 @@ macro_rules! row {
 }
 
 /// The directives by their names.
-const DIRECTIVES: [(&str, (PartName, Kind)); 31] = [
+const DIRECTIVES: [(&str, (PartName, Kind)); 32] = [
     row!("code" in Code: LiteralBlock, Language, Common, Lines, Body),
     row!("code-block" in Code: LiteralBlock, Language, Common, Lines, Body),
     row!("sourcecode" in Code: LiteralBlock, Language, Common, Lines, Body),
@@ -176,6 +180,7 @@ const DIRECTIVES: [(&str, (PartName, Kind)); 31] = [
     row!("line-block" in Wider: LineBlock, Absent, Common, Verse, Body),
     row!("math" in Wider: MathBlock, Absent, Common, Formulas, Body),
     row!("contents" in Wider: Topic, OptionalTitle, Contents, Entries, Beside),
+    row!("list-table" in Wider: Table, OptionalTitle, ListTable, Rows, Body),
 ];
 
 /// Whether a text names a directive of the wider profile, without regard to the case of letters of ASCII.
@@ -230,6 +235,7 @@ impl ContentKind {
                 | ContentKind::Paragraph
                 | ContentKind::Caption
                 | ContentKind::Classed
+                | ContentKind::Rows
         )
     }
 
@@ -287,11 +293,17 @@ impl OptionSet {
                 OptionName::Class | OptionName::Name | OptionName::Inclusion
             ),
             OptionSet::Contents => option == OptionName::Class || option.is_of_contents(),
+            OptionSet::ListTable => {
+                matches!(
+                    option,
+                    OptionName::Class | OptionName::Name | OptionName::Width | OptionName::Align
+                ) || option.is_of_tables()
+            }
             OptionSet::Image | OptionSet::Figure => match option {
                 OptionName::Subtitle | OptionName::File | OptionName::Url | OptionName::Inclusion =>
                     { false }
                 OptionName::FigureWidth | OptionName::FigureClass => self == OptionSet::Figure,
-                _ => !option.is_of_contents(),
+                _ => !option.is_of_contents() && !option.is_of_tables(),
             },
         }
     }

@@ -18,6 +18,7 @@ mod options;
 pub mod rows;
 mod target;
 mod value;
+mod widths;
 
 pub use argument::Argument;
 pub use calls::{called, directive};
@@ -33,3 +34,4 @@ pub use option::OptionName;
 pub use options::Setting;
 pub use target::{Target, target_value};
 pub use value::OptionValue;
+pub use widths::Widths;

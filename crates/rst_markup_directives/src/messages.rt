@@ -29,6 +29,9 @@ pub fn message(alloc: Global, fault: &DirectiveFault, name: &str) -> Result<Stri
         DirectiveFault::NoContent => Ok(format!(in alloc;
             "Content block expected for the \"{name}\" directive; none found."
         )?),
+        DirectiveFault::NoRows => Ok(format!(in alloc;
+            "The \"{name}\" directive is empty; content required."
+        )?),
         DirectiveFault::TopicNotHere => Ok(String::from_str(
             alloc,
             "The \"topic\" directive may not be used within topics or body elements.",

@@ -1,6 +1,6 @@
 //! The options of directives.
 ghost use Rattle.std.specs.Prelude.{◌≡◌};
-ghost use Rattle.rst_markup_directives.specs.Kind.{is_of_contents, reads_file};
+ghost use Rattle.rst_markup_directives.specs.Kind.{is_of_contents, is_of_tables, reads_file};
 ghost use Rattle.rst_markup_directives.specs.OptionName as spec;
 
 use super::characters::lookup;
@@ -26,10 +26,13 @@ pub enum OptionName {
     Depth,
     Local,
     Backlinks,
+    HeaderRows,
+    StubColumns,
+    Widths,
 }
 
 /// The options by their names.
-const OPTIONS: [(&str, OptionName); 24] = [
+const OPTIONS: [(&str, OptionName); 27] = [
     ("alt", OptionName::Alt),
     ("height", OptionName::Height),
     ("width", OptionName::Width),
@@ -54,6 +57,9 @@ const OPTIONS: [(&str, OptionName); 24] = [
     ("depth", OptionName::Depth),
     ("local", OptionName::Local),
     ("backlinks", OptionName::Backlinks),
+    ("header-rows", OptionName::HeaderRows),
+    ("stub-columns", OptionName::StubColumns),
+    ("widths", OptionName::Widths),
 ];
 
 impl OptionName {
@@ -71,6 +77,16 @@ impl OptionName {
         matches!(
             self,
             OptionName::Depth | OptionName::Local | OptionName::Backlinks
+        )
+    }
+
+    /// Whether it is one of a table made of lists alone.
+    pub(crate) fn is_of_tables(self) -> bool
+        ensures { result ≡ is_of_tables self }
+    {
+        matches!(
+            self,
+            OptionName::HeaderRows | OptionName::StubColumns | OptionName::Widths
         )
     }
 

@@ -8,6 +8,7 @@ use super::kind::OptionSet;
 use super::measure::{Alignment, alignment_of, measure_of, scale_of};
 use super::option::OptionName;
 use super::target::{Target, target_value};
+use super::widths::{Widths, widths_of};
 use rst_markup_lines::is_blank as is_empty;
 use rst_text::{id_of, is_white, name_of};
 use std::alloc::{AllocError, Global};
@@ -19,7 +20,7 @@ pub enum OptionValue {
     Text(String),
     /// The measure of `height`, `width` and `figwidth`.
     Measure(String),
-    /// The number of `scale` and of `depth`; 1 for `local`, which has no value.
+    /// The number of `scale`, `depth`, `header-rows` and `stub-columns`; 1 for `local`, which has no value.
     Number(u64),
     /// The word of `align`.
     Place(Alignment),
@@ -31,6 +32,8 @@ pub enum OptionValue {
     Name(String),
     /// The word of `backlinks`.
     Backlinks(Backlinks),
+    /// The word or the numbers of `widths`.
+    Widths(Widths),
 }
 
 /// What the value of an option of a directive means, or none where the option can't have it.
@@ -54,7 +57,7 @@ pub(crate) fn option_value(
         }
         OptionName::Scale => Ok(scale_of(alloc, value)?.map(|number| OptionValue::Number(number))),
         OptionName::Align => {
-            let vertical = options != OptionSet::Figure;
+            let vertical = !matches!(options, OptionSet::Figure | OptionSet::ListTable);
             Ok(alignment_of(value, vertical).map(|alignment| OptionValue::Place(alignment)))
         }
         OptionName::Class | OptionName::FigureClass => {
@@ -69,11 +72,16 @@ pub(crate) fn option_value(
             let text = text_from(alloc, value)?;
             Ok(Some(OptionValue::Name(name_of(alloc, text.as_str())?)))
         }
-        OptionName::Depth => Ok(depth_of(alloc, value)?.map(|number| OptionValue::Number(number))),
+        OptionName::Depth | OptionName::HeaderRows | OptionName::StubColumns => {
+            Ok(depth_of(alloc, value)?.map(|number| OptionValue::Number(number)))
+        }
         OptionName::Local if is_empty_text(value) => Ok(Some(OptionValue::Number(1))),
         OptionName::Local => Ok(None),
         OptionName::Backlinks => {
             Ok(backlinks_of(value).map(|backlinks| OptionValue::Backlinks(backlinks)))
+        }
+        OptionName::Widths => {
+            Ok(widths_of(alloc, value)?.map(|widths| OptionValue::Widths(widths)))
         }
         OptionName::Subtitle | OptionName::File | OptionName::Url => {
             if is_empty_text(value) {

@@ -34,7 +34,7 @@ returns-then-not-is_empty c =
     content_reads (Classes element) f.content opened.opened tt tt c.requires.right.content c.requires.right.later opened.moved opened.at
     (plain_comes l new B (read_of_directive f) lines f.end c.args.pass.now.numbers at (Classes element) c.opened.result
     (λ ns. ap (λ (x : List Node). reads_from new B x new.at)
-    (ap (λ (x : Node). class_nodes false x lines ns) node ∙ sym (class_held f.kind.content (is_empty f.content) false _ lines ns c.requires.content some)))
+    (ap (λ (x : Node). class_nodes false x lines ns) node ∙ sym (class_held f.kind.content (choices_in f.options.items) (is_empty f.content) false _ at lines ns c.requires.content some)))
     opened.opened opened.at opened.moved)
     refl (omega arith) (omega arith)
 
@@ -56,6 +56,6 @@ returns c =
     content_reads (Element element) f.content opened.opened tt tt c.requires.right.content c.requires.right.later opened.moved opened.at
     (plain_comes l new B (read_of_directive f) lines f.end c.args.pass.now.numbers at (Element element) c.opened-2.result
     (λ ns. ap (λ (x : List Node). reads_from new B x new.at)
-    (ap (λ (x : Node). filled x ns ∷ []) node ∙ sym (class_held f.kind.content (is_empty f.content) true _ lines ns c.requires.content none)))
+    (ap (λ (x : Node). filled x ns ∷ []) node ∙ sym (class_held f.kind.content (choices_in f.options.items) (is_empty f.content) true _ at lines ns c.requires.content none)))
     opened.opened opened.at opened.moved)
     refl (omega (arith, c.in_ok-lines.ensures.each)) (omega (arith, c.source.ensures.most))

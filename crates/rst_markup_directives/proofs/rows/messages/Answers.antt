@@ -9,6 +9,7 @@ returns c = record {
   unknown_option = refl;
   options = refl;
   others = refl;
+  without_rows = refl;
   without_content = refl;
   topic = refl;
   sidebar = refl;

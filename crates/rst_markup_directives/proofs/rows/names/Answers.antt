@@ -15,6 +15,7 @@ returns c = record {
   further = refl;
   sidebar = refl;
   contents = refl;
+  list_table = refl;
   quotes = refl;
   quote_classes = refl;
   without_their_part = refl;

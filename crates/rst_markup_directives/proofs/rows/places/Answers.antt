@@ -21,6 +21,8 @@ returns c = record {
   lone_subtitle = refl;
   sidebar = refl;
   contents = refl;
+  table = refl;
+  table_without_rows = refl;
   content_of_contents = refl;
   two_paragraphs = refl;
 }

@@ -19,5 +19,12 @@ returns c = record {
   width = refl;
   figure_width = refl;
   align = refl;
+  alignment_of_tables = refl;
+  rows_of_the_head = refl;
+  stub_columns = refl;
+  widths = refl;
+  automatic_widths = refl;
+  no_widths = refl;
+  classes_of_widths = refl;
   target = refl;
 }

@@ -1,0 +1,134 @@
+-- A table that is made of lists has at most two levels more than these, and its texts have a property that those in the lists have.
+use Rattle.std.proofs.Common.{◌≡◌, ℕ, ◌+◌, ◌-◌, ◌≤◌, Bool, true, List, [], ◌∷◌, ◌++◌, Option, None, Some, map, take, drop, codes, decimal, length, arith, refl}
+use Rattle.std.specs.Prelude.{if◌then◌else◌, nat_lt, unwrap_or}
+use Rattle.std.specs.List.{list_all}
+use Rattle.std.specs.Option.{IfSome}
+use Rattle.std.proofs.lemmas.Bool.{cond_both}
+use Rattle.rst_tree.specs.Attributes.{attr}
+use Rattle.rst_tree.specs.Forest.{Forest, bare}
+use Rattle.rst_tree.specs.Nodes.{children_in, forest_of, nodes_of}
+use Rattle.rst_tree.specs.declared.attrs.Attr.{Attr}
+use Rattle.rst_tree.specs.declared.attrs.Value.TheVariants.{Number}
+use Rattle.rst_tree.specs.declared.key.Key.TheVariants.{Classes, Cols, Colwidth, Stub, TextMessages}
+use Rattle.rst_tree.specs.declared.node.Node.{Node}
+use Rattle.rst_tree.specs.declared.node.Node.TheVariants.{Element, Text}
+use Rattle.rst_tree.specs.declared.note.Level.TheVariants.{Error}
+use Rattle.rst_tree.specs.declared.tag.Tag.{Tag}
+use Rattle.rst_tree.specs.declared.tag.Tag.TheVariants.{BulletList, Colspec, Entry, Row, Tbody, Tgroup, Thead}
+use Rattle.rst_markup_directives.specs.Widths.{Columns}
+use Rattle.rst_block_nodes.specs.Elements.{element_of}
+use Rattle.rst_block_nodes.specs.ListTables.{Asked, column_attrs, column_count, column_widths, columns_of, entry_of, items_in, list_items, made_table, only_list, row_cells, row_groups, row_of, table_fault, table_fault_text, table_group, table_or_fault, list_table_by, with_width_class}
+use Rattle.rst_block_nodes.specs.TableOfContents.{uncounted}
+use Rattle.rst_block_nodes.specs.declared.table_faults.TableFault.{TableFault}
+use Rattle.rst_block_nodes.specs.declared.table_faults.TableFault.TheVariants.{FewColumns, FewRows, NoBody, NoInnerList, NoStubless, NotOneList, OtherWidths, Uneven}
+use Rattle.rst_block_state.specs.ListTables.{list_table_nodes, table_or_error}
+use Rattle.rst_block_state.specs.Texts.{message_with_lines}
+use Rattle.rst_tree_laws.proofs.Decimals.{decimal_fixed}
+use Rattle.rst_tree_laws.proofs.Have.{with_attr_has, without_key_has}
+use Rattle.rst_tree_laws.proofs.Lists.{all_append, all_drop, all_map, all_take}
+use Rattle.rst_tree_laws.proofs.Properties.{Suited, fixed_has}
+use Rattle.rst_tree_laws.specs.Texts.{AttrsHave, is_fixed}
+use Rattle.rst_block_laws.proofs.Fits.{AllFit, Fits, ForestFits, fit_more, fit_nodes, message_fits, open_fits}
+use Rattle.rst_block_laws.proofs.Weights.{HoldsAny, is_flat, light_at, weight, weighed_more}
+
+fault_fixed : (fault : TableFault) → list_all is_fixed (table_fault_text fault) ≡ true
+fault_fixed NotOneList = refl
+fault_fixed (NoInnerList row) = decimal_fixed row (codes " does not contain a second-level bullet list.") refl
+fault_fixed (Uneven row cells columns) =
+    decimal_fixed row (codes " does not contain the same number of items as row 1 (" ++ (decimal cells ++ (codes " vs " ++ (decimal columns ++ codes ")."))))
+    (decimal_fixed cells (codes " vs " ++ (decimal columns ++ codes ").")) (decimal_fixed columns (codes ").") refl))
+fault_fixed (OtherWidths columns) = decimal_fixed columns (codes ").") refl
+fault_fixed (FewRows heads rows) =
+    decimal_fixed heads (codes " header row(s) specified but only " ++ (decimal rows ++ codes " row(s) of data supplied (\"list-table\" directive)."))
+    (decimal_fixed rows (codes " row(s) of data supplied (\"list-table\" directive).") refl)
+fault_fixed (NoBody rows) = decimal_fixed rows (codes " row(s)); no data remaining for table body, required by \"list-table\" directive.") refl
+fault_fixed (FewColumns stubs columns) =
+    decimal_fixed stubs (codes " stub column(s) specified but only " ++ (decimal columns ++ codes " columns(s) of data supplied (\"list-table\" directive)."))
+    (decimal_fixed columns (codes " columns(s) of data supplied (\"list-table\" directive).") refl)
+fault_fixed (NoStubless columns) = decimal_fixed columns (codes " columns(s)); no data remaining for table body, required by \"list-table\" directive.") refl
+
+module _ (P : ℕ → Bool) (T : List ℕ → Type 0) (s : Suited P T) where
+  -- ---- the lists
+
+  items_fit : (t : Tag) (content : Forest) (j : ℕ) → ForestFits T j content → IfSome (items_in t content) (AllFit T j)
+  items_fit BulletList content j h = fit_nodes T j content h
+  items_fit _ content j h = tt
+
+  only_fit : (j : ℕ) (ns : List Node) → AllFit T j ns → IfSome (only_list ns) (AllFit T (j - 1))
+  only_fit j [] h = tt
+  only_fit j (Element t a c l ∷ []) h = items_fit t c (j - 1) (omega (arith, h.0.0, weighed_more (is_flat t c) (weight c)), h.0.1.1)
+  only_fit j (Text t ∷ []) h = tt
+  only_fit j (n ∷ p ∷ ns) h = tt
+
+  inside_fit : (j : ℕ) (n : Node) → Fits T j n → AllFit T (j - 1) (nodes_of (children_in n))
+  inside_fit j (Element t a c l) h = fit_nodes T (j - 1) c (omega (arith, h.0, weighed_more (is_flat t c) (weight c)), h.1.1)
+  inside_fit j (Text t) h = tt
+
+  cells_fit : (j : ℕ) (item : Node) → Fits T j item → AllFit T (j - 1 - 1) (unwrap_or (row_cells item) [])
+  cells_fit j item h = elim (row_cells item) as (λ o. IfSome o (AllFit T (j - 1 - 1)) → AllFit T (j - 1 - 1) (unwrap_or o [])) [
+    | None ↦ λ k. tt
+    | Some cells ↦ λ k. k
+  ] (only_fit (j - 1) (nodes_of (children_in item)) (inside_fit j item h))
+
+  -- ---- rows and columns
+
+  entry_fits : (j : ℕ) (item : Node) → Fits T j item → Fits T j (entry_of item)
+  entry_fits j (Element t a c l) h = (light_at Entry c j refl (omega (arith, h.0, weighed_more (is_flat t c) (weight c))), (tt, h.1.1))
+  entry_fits j (Text t) h = (light_at Entry bare j refl (omega (arith, h.0)), (tt, tt))
+
+  row_fits : (j : ℕ) → 2 ≤ j → (item : Node) → Fits T j item → Fits T j (row_of item)
+  row_fits j enough item h =
+      let cells = unwrap_or (row_cells item) [] in
+      open_fits T Row [] 0 (j - 1 - 1) j (map entry_of cells) (λ c. refl) tt (all_map (Fits T (j - 1 - 1)) (Fits T (j - 1 - 1)) entry_of (entry_fits (j - 1 - 1)) cells (cells_fit j item h)) (omega arith)
+
+  columns_fit : (stubs : ℕ) (widths : List ℕ) (line : ℕ) → AllFit T 1 (columns_of stubs widths line)
+  columns_fit stubs [] line = tt
+  columns_fit stubs (w ∷ ws) line =
+      let own : AttrsHave T (column_attrs stubs w) = cond_both (nat_lt 0 stubs) _ _ (AttrsHave T) (λ e. (tt, (tt, tt))) (λ e. (tt, tt)) in
+      ((omega arith, (own, tt)), columns_fit (stubs - 1) ws line)
+
+  groups_fit : (j heads : ℕ) (rows : List Node) → AllFit T j rows → AllFit T (j + 1) (row_groups heads rows)
+  groups_fit j heads rows h =
+      let head : AllFit T (j + 1) (if nat_lt 0 heads then element_of Thead [] (take heads rows) 0 ∷ [] else []) =
+      cond_both (nat_lt 0 heads) _ _ (AllFit T (j + 1)) (λ e. (open_fits T Thead [] 0 j (j + 1) (take heads rows) (λ c. refl) tt (all_take _ heads rows h) (omega arith), tt)) (λ e. tt) in
+      all_append (Fits T (j + 1)) _ (element_of Tbody [] (drop heads rows) 0 ∷ []) head (open_fits T Tbody [] 0 j (j + 1) (drop heads rows) (λ c. refl) tt (all_drop _ heads rows h) (omega arith), tt)
+
+  group_fits : (j : ℕ) → 2 ≤ j → (asked : Asked) (line : ℕ) (items : List Node) → AllFit T j items → Fits T (j + 2) (table_group asked line items)
+  group_fits j enough asked line items h =
+      let widths = column_widths (column_count items) asked.columns in
+      let rows : AllFit T (j + 1) (row_groups asked.heads (map row_of items)) = groups_fit j asked.heads (map row_of items) (all_map (Fits T j) (Fits T j) row_of (row_fits j enough) items h) in
+      open_fits T Tgroup (attr Cols (Number (length widths)) ∷ []) line (j + 1) (j + 2) (columns_of asked.stubs widths line ++ row_groups asked.heads (map row_of items)) (λ c. refl) (tt, tt)
+      (all_append (Fits T (j + 1)) (columns_of asked.stubs widths line) _ (fit_more T 1 (j + 1) (columns_of asked.stubs widths line) (omega arith) (columns_fit asked.stubs widths line)) rows) (omega arith)
+
+  -- ---- the table
+
+  class_has : (columns : Option Columns) (a : List Attr) → AttrsHave T a → AttrsHave T (with_width_class columns a)
+  class_has None a h = h
+  class_has (Some columns) a h = with_attr_has T Classes _ _ tt (without_key_has T Classes a h)
+
+  uncounted_fits : (j : ℕ) (n : Node) → Fits T j n → Fits T j (uncounted n)
+  uncounted_fits j (Element t a content line) h = (h.0, (without_key_has T TextMessages a h.1.0, h.1.1))
+  uncounted_fits j (Text t) h = h
+
+  table_fit : (k : ℕ) → 3 ≤ k → (start : Node) (asked : Asked) (line : ℕ) (items : List Node) → HoldsAny start → Fits T (k + 2) start → AllFit T (k - 1) items → AllFit T (k + 2) (made_table start asked line items)
+  table_fit k some (Element t a c l) asked line items any h low =
+      let inside : AllFit T (k + 1) (nodes_of c) = fit_nodes T (k + 1) c (omega (arith, h.0, weighed_more (is_flat t c) (weight c)), h.1.1) in
+      let group = group_fits (k - 1) (omega arith) asked line items low in
+      let title : AllFit T (k + 1) (map uncounted (take 1 (nodes_of c))) = all_map (Fits T (k + 1)) (Fits T (k + 1)) uncounted (uncounted_fits (k + 1)) (take 1 (nodes_of c)) (all_take _ 1 (nodes_of c) inside) in
+      let nodes : AllFit T (k + 1) (map uncounted (take 1 (nodes_of c)) ++ table_group asked line items ∷ []) =
+      all_append (Fits T (k + 1)) (map uncounted (take 1 (nodes_of c))) (table_group asked line items ∷ []) title ((omega (arith, group.0), group.1), tt) in
+      (open_fits T t (with_width_class asked.columns a) l (k + 1) (k + 2) _ any (class_has asked.columns a h.1.0) nodes (omega arith), fit_more T (k + 1) (k + 2) (drop 1 (nodes_of c)) (omega arith) (all_drop _ 1 (nodes_of c) inside))
+  table_fit k some (Text t) asked line items any h low = (h, tt)
+
+  pub list_table_fits : (k : ℕ) → 3 ≤ k → (line : ℕ) (lines : List ℕ) (start : Node) (asked : Asked) (ns : List Node) → HoldsAny start → Fits T (k + 2) start → T lines → AllFit T k ns
+      → AllFit T (k + 2) (list_table_nodes line lines start asked ns)
+  list_table_fits k some line lines start asked ns any own l low = elim (only_list ns) as (λ o. IfSome o (AllFit T (k - 1)) → AllFit T (k + 2) (table_or_error line lines (list_table_by o start asked line))) [
+    | None ↦ λ h. (error NotOneList, tt)
+    | Some items ↦ λ h. elim (table_fault asked items) as (λ f. AllFit T (k + 2) (table_or_error line lines (table_or_fault f start asked line items))) [
+      | None ↦ table_fit k some start asked line items any own h
+      | Some fault ↦ (error fault, tt)
+    ]
+  ] (only_fit k ns low)
+    where
+      error : (fault : TableFault) → Fits T (k + 2) (message_with_lines Error line (table_fault_text fault) lines)
+      error fault = message_fits T (k + 2) (omega arith) Error line (table_fault_text fault) (Some lines) (fixed_has P T s (table_fault_text fault) (fault_fixed fault)) l

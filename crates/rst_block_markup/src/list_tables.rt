@@ -1,0 +1,55 @@
+//! Tables that are made of lists (Directives, 'List Table').
+ghost use Rattle.std.specs.Prelude.{◌≡◌, ◌+◌, ◌-◌, ◌≤◌, drop, IfOk};
+ghost use Rattle.rst_text.specs.Block.{first_number};
+ghost use Rattle.rst_text.specs.Looked.{capped};
+ghost use Rattle.rst_text.specs.ViewBlock.{block_of};
+ghost use Rattle.rst_block_nodes.specs.ListTables.{asked_in};
+ghost use Rattle.rst_block_state.specs.ListTables as spec;
+ghost use Rattle.rst_block_state.specs.Texts.{span_source};
+
+use rst_block_nodes::{list_table, message, table_fault_text};
+use rst_block_state::{OpenTable, number_at, source};
+use rst_text::{Looks, View};
+use rst_tree::Level;
+use rst_tree_index::{Marked, MarkedNodes};
+use std::alloc::{AllocError, Global};
+
+/// A table of the nodes of its content, and the messages on its title; or else the ERROR alone. The lines of the table are looked at only
+/// if the ERROR shows them. What was marked in the content is marked once more in the table.
+pub fn finished_table(
+    alloc: Global,
+    view: &View<'_>,
+    open: OpenTable,
+    nodes: MarkedNodes,
+    looks: &mut Looks,
+) -> Result<MarkedNodes, AllocError>
+    ensures table { let B = block_of view.now in
+        let lines = span_source B (record { start = open.start; stop = open.end }) in
+        let line = first_number (drop open.start B) in
+        IfOk result (λ made. made ≡ spec.list_table_nodes line lines open.table (asked_in open.asked) nodes) }
+    ensures looks { looks.new ≤ looks.old + (open.end - open.start) }
+    ensures low { IfOk result (λ _. capped looks.old ≤ looks.new) }
+{
+    let OpenTable {
+        table,
+        asked,
+        start,
+        end,
+    } = open;
+    let line = number_at(view, start);
+    match list_table(alloc, table, &asked, line, nodes)? {
+        Ok(nodes) => MarkedNodes::of(alloc, nodes),
+        Err(fault) => {
+            let text = table_fault_text(alloc, fault)?;
+            let lines = source(alloc, view, start, end, looks)?;
+            let error = message(
+                alloc,
+                Level::Error,
+                line,
+                text.as_str(),
+                Some(lines.as_str()),
+            )?;
+            MarkedNodes::alone(alloc, Marked::of(alloc, error)?)
+        }
+    }
+}
