@@ -1,4 +1,4 @@
-"""Worked examples of the wider profile: tables that are made of lists. scripts/wider.py joins them."""
+"""Worked examples of the wider profile: tables. scripts/wider.py joins them."""
 
 # A name, a text, and its tree and messages.
 TABLES = [
@@ -238,5 +238,35 @@ TABLES = [
 .. list-table::
 
 """,
+    ),
+    (
+        "rows of a simple table with a blank first column",
+        "== ==\n   b\na  c\n-- --\n   d\n-- --\n   e\ng  h\n== ==\n",
+        """\
+<document source="<stdin>">
+    <table>
+        <tgroup cols="2">
+            <colspec colwidth="2">
+            <colspec colwidth="2">
+            <tbody>
+                <row>
+                    <entry>
+                        <paragraph>
+                            a
+                    <entry>
+                        <paragraph>
+                            c
+                <row>
+                    <entry>
+                    <entry>
+                <row>
+                    <entry>
+                        <paragraph>
+                            g
+                    <entry>
+                        <paragraph>
+                            h
+""",
+        "",
     ),
 ]
