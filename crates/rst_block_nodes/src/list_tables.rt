@@ -2,7 +2,7 @@
 ghost use Rattle.std.specs.Prelude.{◌≡◌, ◌+◌, ◌++◌, ◌/◌, length, map, replicate, IfOk, option_map, unwrap_or, [], List, ℕ};
 ghost use Rattle.std.specs.Option.{option_map_or};
 ghost use Rattle.std.specs.Result.{result_map_both};
-ghost use Rattle.rst_tree.specs.declared.node.Node.{Node};
+ghost use Rattle.rst_tree.specs.Nodes.{children_in, forest_of, nodes_of};
 ghost use Rattle.rst_markup_directives.specs.Widths.{columns_in};
 ghost use Rattle.rst_block_nodes.specs.ListTables as spec;
 ghost use Rattle.rst_block_nodes.specs.TableOfContents as titles;
@@ -12,7 +12,7 @@ use super::nodes::element_of;
 use super::table_faults::TableFault;
 use super::table_requests::TableOptions;
 use rst_markup_directives::Widths;
-use rst_tree::{Attrs, Children, Key, Node, Result, Tag, Text, Texts, Value};
+use rst_tree::{Attrs, Key, Node, Result, Tag, Text, Texts, Value};
 use rst_tree_index::MarkedNodes;
 use std::alloc::Global;
 
@@ -171,36 +171,42 @@ fn stubs_fault(stubs: u64, columns: usize) -> Option<TableFault>
     None
 }
 
-/// The cells of a row.
+/// The items of a bullet list that is the only node.
+fn only_list(mut nodes: Vec<Node>) -> Option<Vec<Node>>
+    ensures { option_map (λ items. items.items) result ≡ spec.only_list nodes.items }
+{
+    if nodes.len() != 1 {
+        return None;
+    }
+    items_in(nodes.pop()?)
+}
+
+/// The nodes in a node; a text has none.
+fn nodes_in(alloc: Global, node: Node) -> Vec<Node>
+    ensures nodes { result.items ≡ nodes_of (children_in node) }
+    ensures forest { forest_of result.items ≡ children_in node }
+{
+    match node {
+        Node::Element { children, .. } => children.into_list(),
+        Node::Text(_text) => Vec::new(alloc),
+    }
+}
+
+/// The cells of a row; none if it is no list.
 fn row_cells(alloc: Global, item: Node) -> Vec<Node>
     ensures { result.items ≡ unwrap_or (spec.row_cells item) [] }
 {
-    if let Node::Element { children, .. } = item {
-        let mut nodes = children.into_list();
-        if nodes.len() == 1
-            && let Some(node) = nodes.pop()
-            && let Some(cells) = items_in(node)
-        {
-            return cells;
-        }
+    match only_list(nodes_in(alloc, item)) {
+        Some(cells) => cells,
+        None => Vec::new(alloc),
     }
-    Vec::new(alloc)
 }
 
 /// The entry of a cell.
 fn entry_of(alloc: Global, item: Node) -> Node
     ensures { result ≡ spec.entry_of item }
 {
-    let children = match item {
-        Node::Element { children, .. } => children,
-        Node::Text(_) => Children::new(alloc),
-    };
-    Node::Element {
-        tag: Tag::Entry,
-        attrs: Attrs::new(alloc),
-        children,
-        line: 0,
-    }
+    element_of(Tag::Entry, Attrs::new(alloc), nodes_in(alloc, item), 0)
 }
 
 /// A row with its entries.
