@@ -52,7 +52,7 @@ HOLD = {
     "Step": "TableResult Waits", "Waits": "OpenReplacement", "WrongForm": "str",
     # functions
     "add_line": "char", "alone": "N", "definition_of": "String", "definition_or_error": "String", "from": "E", "heading_of": "String",
-    "joined_nonempty": "char", "mailed": "String", "option": "str", "push": "N", "replacement": "String", "shortened": "String",
+    "joined_nonempty": "char", "mailed": "String", "option": "str", "push": "N", "push_count": "String", "replacement": "String", "shortened": "String",
     MACHINE: "Begun Cell Ended Frame Frames LineTest Lines OpenBlock Rows Step TableResult Waits",
 }
 # How many lines there are, their numbers, where they are, and which parts of the wider profile hold in them; how views and lines are made.
