@@ -1,9 +1,10 @@
 -- A table that is made of lists has at most two levels more than these, and its texts have a property that those in the lists have.
-use Rattle.std.proofs.Common.{◌≡◌, ℕ, ◌+◌, ◌-◌, ◌≤◌, Bool, true, List, [], ◌∷◌, ◌++◌, Option, None, Some, map, take, drop, codes, decimal, length, arith, refl}
+use Rattle.std.proofs.Common.{◌≡◌, ℕ, ◌+◌, ◌-◌, ◌≤◌, Bool, true, List, [], ◌∷◌, ◌++◌, Option, None, Some, map, take, drop, codes, decimal, length, arith, refl, subst}
 use Rattle.std.specs.Prelude.{if◌then◌else◌, nat_lt, unwrap_or}
 use Rattle.std.specs.List.{list_all}
 use Rattle.std.specs.Option.{IfSome}
-use Rattle.std.proofs.lemmas.Bool.{cond_both}
+use Rattle.std.proofs.lemmas.Bool.{and_from, and_parts, cond_both}
+use Rattle.std.proofs.lemmas.List.{append-nil}
 use Rattle.rst_tree.specs.Attributes.{attr}
 use Rattle.rst_tree.specs.Forest.{Forest, bare}
 use Rattle.rst_tree.specs.Nodes.{children_in, forest_of, nodes_of}
@@ -31,20 +32,33 @@ use Rattle.rst_tree_laws.specs.Texts.{AttrsHave, is_fixed}
 use Rattle.rst_block_laws.proofs.Fits.{AllFit, Fits, ForestFits, fit_more, fit_nodes, message_fits, open_fits}
 use Rattle.rst_block_laws.proofs.Weights.{HoldsAny, is_flat, light_at, weight, weighed_more}
 
+text_fixed : (a b : List ℕ) → list_all is_fixed a ≡ true → list_all is_fixed b ≡ true → list_all is_fixed (a ++ b) ≡ true
+text_fixed [] b p q = q
+text_fixed (c ∷ cs) b p q = let parts = and_parts (is_fixed c) (list_all is_fixed cs) p in and_from (is_fixed c) (list_all is_fixed (cs ++ b)) parts.0 (text_fixed cs b parts.1 q)
+
+counted_fixed : (a : List ℕ) (n : ℕ) (b : List ℕ) → list_all is_fixed a ≡ true → list_all is_fixed b ≡ true → list_all is_fixed (a ++ decimal n ++ b) ≡ true
+counted_fixed a n b p q =
+    let number : list_all is_fixed (decimal n) ≡ true = subst (λ t. list_all is_fixed t ≡ true) (append-nil (decimal n)) (decimal_fixed n [] refl) in
+    text_fixed (a ++ decimal n) b (text_fixed a (decimal n) p number) q
+
+few_fixed : (n : ℕ) (a : List ℕ) (m : ℕ) (b : List ℕ) → list_all is_fixed a ≡ true → list_all is_fixed b ≡ true → list_all is_fixed (decimal n ++ a ++ decimal m ++ b) ≡ true
+few_fixed n a m b p q = counted_fixed (decimal n ++ a) m b (decimal_fixed n a p) q
+
 fault_fixed : (fault : TableFault) → list_all is_fixed (table_fault_text fault) ≡ true
 fault_fixed NotOneList = refl
 fault_fixed (NoInnerList row) = decimal_fixed row (codes " does not contain a second-level bullet list.") refl
 fault_fixed (Uneven row cells columns) =
-    decimal_fixed row (codes " does not contain the same number of items as row 1 (" ++ (decimal cells ++ (codes " vs " ++ (decimal columns ++ codes ")."))))
-    (decimal_fixed cells (codes " vs " ++ (decimal columns ++ codes ").")) (decimal_fixed columns (codes ").") refl))
+    let before : List ℕ = codes "uniform two-level bullet list expected, but row " in
+    let between : List ℕ = codes " does not contain the same number of items as row 1 (" in
+    text_fixed (codes "Error parsing content block for the \"list-table\" directive: ")
+    (before ++ decimal row ++ between ++ decimal cells ++ codes " vs " ++ decimal columns ++ codes ").") refl
+    (counted_fixed (before ++ decimal row ++ between ++ decimal cells ++ codes " vs ") columns (codes ").")
+    (counted_fixed (before ++ decimal row ++ between) cells (codes " vs ") (counted_fixed before row between refl refl) refl) refl)
 fault_fixed (OtherWidths columns) = decimal_fixed columns (codes ").") refl
-fault_fixed (FewRows heads rows) =
-    decimal_fixed heads (codes " header row(s) specified but only " ++ (decimal rows ++ codes " row(s) of data supplied (\"list-table\" directive)."))
-    (decimal_fixed rows (codes " row(s) of data supplied (\"list-table\" directive).") refl)
+fault_fixed (FewRows heads rows) = few_fixed heads (codes " header row(s) specified but only ") rows (codes " row(s) of data supplied (\"list-table\" directive).") refl refl
 fault_fixed (NoBody rows) = decimal_fixed rows (codes " row(s)); no data remaining for table body, required by \"list-table\" directive.") refl
 fault_fixed (FewColumns stubs columns) =
-    decimal_fixed stubs (codes " stub column(s) specified but only " ++ (decimal columns ++ codes " columns(s) of data supplied (\"list-table\" directive)."))
-    (decimal_fixed columns (codes " columns(s) of data supplied (\"list-table\" directive).") refl)
+    few_fixed stubs (codes " stub column(s) specified but only ") columns (codes " columns(s) of data supplied (\"list-table\" directive).") refl refl
 fault_fixed (NoStubless columns) = decimal_fixed columns (codes " columns(s)); no data remaining for table body, required by \"list-table\" directive.") refl
 
 module _ (P : ℕ → Bool) (T : List ℕ → Type 0) (s : Suited P T) where
