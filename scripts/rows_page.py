@@ -31,8 +31,8 @@ SECTIONS = {
         Strong Emphasis; Interpreted Text; Inline Literals; Hyperlink References; Embedded URIs and Aliases; Inline Internal Targets;
         Footnote References; Citation References; Substitution References; Standalone Hyperlinks; Units; Length Units; Percentage Units;
         Error Handling""",
-    "Directives": """Specific Admonitions; Generic Admonition; Image; Figure; Topic; Sidebar; Epigraph; Highlights; Pull-Quote; Code; Parsed Literal Block; Line Block; Math; Rubric; Compound Paragraph; Container; Table of Contents; Class;
-        Replacement Text; Including an External Document Fragment; Raw Data Pass-Through; Class; Common Options; Identifier Normalization""",
+    "Directives": """Specific Admonitions; Generic Admonition; Image; Figure; Topic; Sidebar; Epigraph; Highlights; Pull-Quote; Code; Parsed Literal Block; Line Block; Math; Rubric; Compound Paragraph; Container; List Table;
+        Table of Contents; Replacement Text; Including an External Document Fragment; Raw Data Pass-Through; Class; Common Options; Identifier Normalization""",
     "Roles": "Standard Roles",
     "Document Tree": "Introduction; Element Reference; Attribute Reference",
     "Configuration": """docinfo_xform; doctitle_xform; exit_status_level; halt_level; input_encoding; line_length_limit; report_level; tab_width""",

@@ -34,8 +34,7 @@ ghost use Rattle.rst_markup_directives.specs.declared.option.OptionName.TheVaria
 
 /// Which directive a name is of (Markup Specification, 'Directives').
 pub fn names()
-    ensures admonitions { map (λ t. directive_named no_parts (codes t) false) ("attention" ∷ "caution" ∷ "danger" ∷ "error" ∷ "hint" ∷ "important" ∷ "note"
-        ∷ "tip" ∷ "warning" ∷ [])
+    ensures admonitions { map (λ t. directive_named no_parts (codes t) false) ("attention" ∷ "caution" ∷ "danger" ∷ "error" ∷ "hint" ∷ "important" ∷ "note" ∷ "tip" ∷ "warning" ∷ [])
         ≡ map (λ element. Some (kind element Absent Common Blocks allowed.Body)) (tag.Attention ∷ tag.Caution ∷ tag.Danger ∷ tag.Error ∷ tag.Hint
         ∷ tag.Important ∷ tag.Note ∷ tag.Tip ∷ tag.Warning ∷ []) }
     ensures titled { map (λ t. directive_named no_parts (codes t) false) ("admonition" ∷ "topic" ∷ [])
@@ -61,14 +60,12 @@ pub fn names()
     ensures quotes { map (λ t. directive_named all_parts (codes t) false) ("epigraph" ∷ "highlights" ∷ "Pull-Quote" ∷ "pullquote" ∷ [])
         ≡ Some (kind tag.BlockQuote Absent NoOptions (Quotes Epigraph) allowed.Body) ∷ Some (kind tag.BlockQuote Absent NoOptions (Quotes Highlights) allowed.Body)
         ∷ Some (kind tag.BlockQuote Absent NoOptions (Quotes PullQuote) allowed.Body) ∷ None ∷ [] }
-    ensures quote_classes { map (λ class. quote_class class) (Epigraph ∷ Highlights ∷ PullQuote ∷ [])
-        ≡ codes "epigraph" ∷ codes "highlights" ∷ codes "pull-quote" ∷ [] }
+    ensures quote_classes { map (λ class. quote_class class) (Epigraph ∷ Highlights ∷ PullQuote ∷ []) ≡ codes "epigraph" ∷ codes "highlights" ∷ codes "pull-quote" ∷ [] }
     ensures without_their_part { filter (λ t. is_some (directive_named (record all_parts { directives = false }) (codes t) true)) ("rubric" ∷ "raw"
         ∷ "parsed-literal" ∷ "include" ∷ "compound" ∷ "container" ∷ "class" ∷ "sidebar" ∷ "epigraph" ∷ "highlights" ∷ "pull-quote" ∷ "line-block" ∷ "math" ∷ "contents"
         ∷ "list-table" ∷ [])
         ≡ [] }
-    ensures wider { filter (λ t. is_wider_directive (codes t)) ("note" ∷ "code" ∷ "Raw" ∷ "PARSED-literal" ∷ "ra" ∷ "raws" ∷ "Math" ∷ "" ∷ [])
-        ≡ "Raw" ∷ "PARSED-literal" ∷ "Math" ∷ [] }
+    ensures wider { filter (λ t. is_wider_directive (codes t)) ("note" ∷ "code" ∷ "Raw" ∷ "PARSED-literal" ∷ "ra" ∷ "raws" ∷ "Math" ∷ "" ∷ []) ≡ "Raw" ∷ "PARSED-literal" ∷ "Math" ∷ [] }
     ensures left_out { filter (λ t. is_some (directive_named no_parts (codes t) true)) ("raw" ∷ "include" ∷ "table" ∷ "csv-table" ∷ "list-table" ∷ "math"
         ∷ "contents" ∷ "class" ∷ "compound" ∷ "container" ∷ "line-block" ∷ "rubric" ∷ "sidebar" ∷ "parsed-literal" ∷ "role" ∷ "unicode" ∷ "date" ∷ "notes" ∷ "not" ∷ [])
         ≡ [] }
@@ -76,8 +73,7 @@ pub fn names()
 
 /// Which options the directives have (Directives, 'Common Options').
 pub fn option_names()
-    ensures each { map (λ t. option_named (codes t)) ("alt" ∷ "height" ∷ "width" ∷ "scale" ∷ "align" ∷ "target" ∷ "class" ∷ "name" ∷ "figwidth"
-        ∷ "figclass" ∷ "file" ∷ "url" ∷ [])
+    ensures each { map (λ t. option_named (codes t)) ("alt" ∷ "height" ∷ "width" ∷ "scale" ∷ "align" ∷ "target" ∷ "class" ∷ "name" ∷ "figwidth" ∷ "figclass" ∷ "file" ∷ "url" ∷ [])
         ≡ Some Alt ∷ Some Height ∷ Some Width ∷ Some Scale ∷ Some Align ∷ Some Target ∷ Some Class ∷ Some NameOption ∷ Some FigureWidth
         ∷ Some FigureClass ∷ Some File ∷ Some Url ∷ [] }
     ensures inclusion { map (λ t. option_named (codes t)) ("literal" ∷ "code" ∷ "number-lines" ∷ "start-line" ∷ "end-line" ∷ "start-after" ∷ "end-before"
@@ -95,8 +91,7 @@ pub fn option_names()
         ≡ Width ∷ Align ∷ Class ∷ NameOption ∷ HeaderRows ∷ StubColumns ∷ Widths ∷ [] }
     ensures tables { map (λ t. option_named (codes t)) ("header-rows" ∷ "Stub-Columns" ∷ "widths" ∷ []) ≡ Some HeaderRows ∷ Some StubColumns ∷ Some Widths ∷ [] }
     ensures of_tables_alone { filter (λ o. has_option Figure o) (HeaderRows ∷ StubColumns ∷ Widths ∷ []) ≡ [] }
-    ensures case_of_letters { map (λ t. option_named (codes t)) ("FigWidth" ∷ "alt text" ∷ "number-line" ∷ [])
-        ≡ Some FigureWidth ∷ None ∷ None ∷ [] }
+    ensures case_of_letters { map (λ t. option_named (codes t)) ("FigWidth" ∷ "alt text" ∷ "number-line" ∷ []) ≡ Some FigureWidth ∷ None ∷ None ∷ [] }
     ensures image { filter (λ o. has_option Image o) (Alt ∷ Height ∷ Width ∷ Scale ∷ Align ∷ Target ∷ Class ∷ NameOption ∷ FigureWidth ∷ FigureClass
         ∷ Inclusion ∷ [])
         ≡ Alt ∷ Height ∷ Width ∷ Scale ∷ Align ∷ Target ∷ Class ∷ NameOption ∷ [] }
@@ -119,8 +114,7 @@ pub fn measures()
     ensures percent { measure_of (codes "50 %") true false ≡ Some (codes "50%") }
     ensures without_unit { measure_of (codes "300") true false ≡ Some (codes "300") }
     ensures pixels { map (λ t. measure_of (codes t) true true) ("300" ∷ "30%" ∷ []) ≡ Some (codes "300px") ∷ Some (codes "30%") ∷ [] }
-    ensures numbers { filter (λ t. is_some (measure_of (codes t) true false)) ("5." ∷ ".5" ∷ "1.5.2" ∷ "1,5" ∷ "-1" ∷ "1 2" ∷ "px" ∷ "1p x" ∷ "" ∷ [])
-        ≡ [] }
+    ensures numbers { filter (λ t. is_some (measure_of (codes t) true false)) ("5." ∷ ".5" ∷ "1.5.2" ∷ "1,5" ∷ "-1" ∷ "1 2" ∷ "px" ∷ "1p x" ∷ "" ∷ []) ≡ [] }
     ensures scales { map (λ t. scale_of (codes t)) ("50" ∷ "050" ∷ "50%" ∷ "50  %" ∷ "999999999" ∷ [])
         ≡ Some 50 ∷ Some 50 ∷ Some 50 ∷ Some 50 ∷ Some 999999999 ∷ [] }
     ensures no_scales { filter (λ t. is_some (scale_of (codes t))) ("1000000000" ∷ "5.5" ∷ "%" ∷ "50 px" ∷ "50%%" ∷ "-5" ∷ "" ∷ []) ≡ [] }
@@ -165,8 +159,7 @@ pub fn values()
     ensures backlinks { map (λ t. option_meaning Contents Backlinks (codes t)) ("Top" ∷ "entry" ∷ "NONE" ∷ "x" ∷ "" ∷ [])
         ≡ Some (led_back back.Top) ∷ Some (led_back back.Entry) ∷ Some (led_back back.Nowhere) ∷ None ∷ None ∷ [] }
     ensures height { map (λ t. option_meaning Image Height (codes t)) ("50" ∷ "50%" ∷ []) ≡ Some (measured (codes "50")) ∷ None ∷ [] }
-    ensures width { map (λ t. option_meaning Figure Width (codes t)) ("50" ∷ "50%" ∷ [])
-        ≡ Some (measured (codes "50")) ∷ Some (measured (codes "50%")) ∷ [] }
+    ensures width { map (λ t. option_meaning Figure Width (codes t)) ("50" ∷ "50%" ∷ []) ≡ Some (measured (codes "50")) ∷ Some (measured (codes "50%")) ∷ [] }
     ensures figure_width { map (λ t. option_meaning Figure FigureWidth (codes t)) ("50" ∷ "image" ∷ []) ≡ Some (measured (codes "50px")) ∷ None ∷ [] }
     ensures align { map (λ d. option_meaning d Align (codes "middle")) (Image ∷ Figure ∷ []) ≡ Some (placed Middle) ∷ None ∷ [] }
     ensures alignment_of_tables { map (λ t. option_meaning ListTable Align (codes t)) ("right" ∷ "top" ∷ []) ≡ Some (placed Right) ∷ None ∷ [] }
@@ -485,8 +478,7 @@ pub fn directives()
 /// The texts of messages (Markup Specification, 'Directives').
 pub fn messages()
     ensures unknown_name { fault_text unknown_directive (codes "foo") ≡ codes "Unknown directive type \"foo\"." }
-    ensures unknown_option { fault_text (inside (unknown (codes "bar"))) (codes "Note")
-        ≡ codes "Error in \"Note\" directive:\nunknown option: \"bar\"." }
+    ensures unknown_option { fault_text (inside (unknown (codes "bar"))) (codes "Note") ≡ codes "Error in \"Note\" directive:\nunknown option: \"bar\"." }
     ensures options { map (λ w. wrong_text w) (option_block ∷ duplicate (codes "alt") ∷ invalid (codes "scale") ∷ [])
         ≡ codes "invalid option block." ∷ codes "duplicate option \"alt\"." ∷ codes "invalid value of option \"scale\"." ∷ [] }
     ensures others { map (λ w. wrong_text w) (no_argument ∷ many_arguments ∷ faults.content_not_permitted ∷ faults.not_one_paragraph ∷ [])

@@ -113,7 +113,7 @@ pub fn simple_rows()
         ((plain 2 ("a" ∷ []) ∷ plain 2 ("b" ∷ []) ∷ []) ∷ []) 3 }
 {}
 
-/// The rows of simple tables by the wider profile, where lines before the first row are in none.
+/// The rows of simple tables by the wider profile, where lines before the first row are in none (Markup Specification, 'Simple Tables').
 pub fn wider_rows()
     ensures blank_first_cell { HoldsWider ("== ==" ∷ "   b" ∷ "a  c" ∷ "== ==" ∷ []) ((("a" ∷ []) ∷ ("c" ∷ []) ∷ []) ∷ []) }
     ensures no_row_begins { HoldsWider ("== ==" ∷ "   b" ∷ "== ==" ∷ []) (([] ∷ [] ∷ []) ∷ []) }
