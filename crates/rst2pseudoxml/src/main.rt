@@ -33,8 +33,6 @@ fn started<E: Write>(rt: &HostRuntime, err: &mut Counted<E>) -> Stop
 #[cfg(test)]
 mod large_tests;
 #[cfg(test)]
-mod refused_tests;
-#[cfg(test)]
 mod rows;
 #[cfg(test)]
 mod rows_bodies;
@@ -52,5 +50,3 @@ mod rows_titles;
 mod stream_tests;
 #[cfg(test)]
 mod tests;
-#[cfg(test)]
-mod whole_document;

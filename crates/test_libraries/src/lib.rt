@@ -12,8 +12,6 @@ mod markup_tests;
 #[cfg(test)]
 mod options_tests;
 #[cfg(test)]
-mod refused_tests;
-#[cfg(test)]
 mod tables_tests;
 #[cfg(test)]
 mod transforms_tests;
