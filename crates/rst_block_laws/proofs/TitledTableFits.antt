@@ -1,11 +1,13 @@
 -- A table that gets a title and options has at most two levels more than its content, and its texts have a property that those in the content have.
 use Rattle.std.proofs.Common.{ℕ, ◌+◌, ◌-◌, ◌≤◌, List, [], ◌∷◌, ◌++◌, Option, None, Some, map, take, drop, arith, refl}
 use Rattle.std.specs.Option.{IfSome}
+use Rattle.std.proofs.lemmas.Bool.{cond_both}
 use Rattle.rst_tree.specs.Forest.{Forest}
+use Rattle.rst_tree.specs.KeyNames.{is_same}
 use Rattle.rst_tree.specs.Nodes.{nodes_of}
 use Rattle.rst_tree.specs.declared.attrs.Attr.{Attr}
 use Rattle.rst_tree.specs.declared.attrs.Value.{Value}
-use Rattle.rst_tree.specs.declared.attrs.Value.TheVariants.{Number, List as Listed}
+use Rattle.rst_tree.specs.declared.attrs.Value.TheVariants.{Number}
 use Rattle.rst_tree.specs.declared.key.Key.{Key}
 use Rattle.rst_tree.specs.declared.key.Key.TheVariants.{Classes, Colwidth, TextMessages}
 use Rattle.rst_tree.specs.declared.node.Node.{Node}
@@ -15,7 +17,7 @@ use Rattle.rst_tree.specs.declared.tag.Tag.TheVariants.{Table as TableTag, Tgrou
 use Rattle.rst_markup_directives.specs.Widths.{Columns, given}
 use Rattle.rst_block_nodes.specs.TableOfContents.{uncounted}
 use Rattle.rst_block_nodes.specs.TableRequests.{Asked}
-use Rattle.rst_block_nodes.specs.TitledTables.{Parts, only_table, resized, resized_all, resized_element, retitled, table_parts, with_given, with_last_class, with_option, with_title, with_width, with_widths}
+use Rattle.rst_block_nodes.specs.TitledTables.{TableParts, only_table, table_in, resized, resized_all, resized_element, retitled, table_parts, with_given, with_last_class, with_option, with_title, with_width, with_widths}
 use Rattle.rst_tree_laws.proofs.Have.{with_attr_has, without_key_has}
 use Rattle.rst_tree_laws.proofs.Lists.{all_append, all_drop, all_map, all_take}
 use Rattle.rst_tree_laws.specs.Texts.{AttrsHave, ValueHas, becomes_text}
@@ -38,17 +40,20 @@ module _ (T : List ℕ → Type 0) where
   -- ---- the content
 
   -- the parts of a table
-  pub PartsFit : ℕ → Parts → Type 0
+  pub PartsFit : ℕ → TableParts → Type 0
   PartsFit j table = AttrsHave T table.0 × AllFit T (j - 1) table.1
 
   parts_fit : (t : Tag) (a : List Attr) (c : Forest) (line j : ℕ) → AttrsHave T a → ForestFits T (j - 1) c → IfSome (table_parts t a c line) (PartsFit j)
   parts_fit TableTag a c line j own h = (own, fit_nodes T (j - 1) c h)
   parts_fit _ a c line j own h = tt
 
+  node_parts_fit : (n : Node) (j : ℕ) → Fits T j n → IfSome (table_in n) (PartsFit j)
+  node_parts_fit (Element t a c l) j h = parts_fit t a c l j h.1.0 (omega (arith, h.0, weighed_more (is_flat t c) (weight c)), h.1.1)
+  node_parts_fit (Text t) j h = tt
+
   pub only_table_fits : (j : ℕ) (ns : List Node) → AllFit T j ns → IfSome (only_table ns) (PartsFit j)
   only_table_fits j [] h = tt
-  only_table_fits j (Element t a c l ∷ []) h = parts_fit t a c l j h.0.1.0 (omega (arith, h.0.0, weighed_more (is_flat t c) (weight c)), h.0.1.1)
-  only_table_fits j (Text t ∷ []) h = tt
+  only_table_fits j (n ∷ []) h = node_parts_fit n j h.0
   only_table_fits j (n ∷ p ∷ ns) h = tt
 
   -- ---- its columns
@@ -79,8 +84,8 @@ module _ (T : List ℕ → Type 0) where
   -- ---- its attributes
 
   option_has : (k : Key) (v : Value) (attrs : List Attr) → ValueHas T (becomes_text k) v → AttrsHave T attrs → AttrsHave T (with_option k v attrs)
-  option_has Classes (Listed more) attrs h own = with_attr_has T Classes _ _ tt (without_key_has T Classes attrs own)
-  option_has k v attrs h own = with_attr_has T k v attrs h own
+  option_has k v attrs h own =
+      cond_both (is_same k Classes) _ _ (AttrsHave T) (λ e. with_attr_has T Classes _ _ tt (without_key_has T Classes attrs own)) (λ e. with_attr_has T k v attrs h own)
 
   given_has : (options attrs : List Attr) → AttrsHave T options → AttrsHave T attrs → AttrsHave T (with_given options attrs)
   given_has [] attrs h own = own
@@ -92,7 +97,7 @@ module _ (T : List ℕ → Type 0) where
 
   -- ---- the table
 
-  pub retitled_fits : (k : ℕ) (start : Node) (asked : Asked) (table : Parts) → Fits T (k + 2) start → PartsFit k table → AllFit T (k + 2) (retitled start asked table)
+  pub retitled_fits : (k : ℕ) (start : Node) (asked : Asked) (table : TableParts) → Fits T (k + 2) start → PartsFit k table → AllFit T (k + 2) (retitled start asked table)
   retitled_fits k (Element t options c l) asked (a, nodes, line) h p =
       let inside : AllFit T (k + 1) (nodes_of c) = fit_nodes T (k + 1) c (omega (arith, h.0, weighed_more (is_flat t c) (weight c)), h.1.1) in
       let own : AllFit T (k - 1) (resized_all asked.columns nodes) = resized_fit (k - 1) asked.columns nodes p.1 in

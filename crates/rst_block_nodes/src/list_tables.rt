@@ -103,9 +103,7 @@ fn table_fault(asked: &TableOptions, items: &[Node]) -> Option<TableFault>
     if let Some(fault) = rows_fault(columns, items) {
         return Some(fault);
     }
-    if let Some(fault) =
-        widths_fault(TableDirective::ListTable, columns as u64, &asked.widths)
-    {
+    if let Some(fault) = widths_fault(TableDirective::ListTable, columns as u64, &asked.widths) {
         return Some(fault);
     }
     if let Some(fault) = heads_fault(asked.heads, items.len()) {

@@ -73,7 +73,8 @@ pub fn table_fault_text(alloc: Global, fault: TableFault) -> Result<String>
 {
     match fault {
         TableFault::NotOneTable => {
-            let text = "Error parsing content block for the \"table\" directive: exactly one table expected.";
+            let text =
+                "Error parsing content block for the \"table\" directive: exactly one table expected.";
             Ok(String::from_str(alloc, text)?)
         }
         TableFault::NotOneList => lists_text(alloc, "exactly one bullet list expected."),

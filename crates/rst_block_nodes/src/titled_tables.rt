@@ -1,8 +1,6 @@
 //! Tables that get a title and options.
 ghost use Rattle.std.specs.Prelude.{◌≡◌, map, option_map, IfOk};
 ghost use Rattle.std.specs.Result.{result_map_both};
-ghost use Rattle.rst_tree.specs.Attributes.{value_of, without_key};
-ghost use Rattle.rst_tree.specs.declared.key.Key.TheVariants.{Classes};
 ghost use Rattle.rst_tree_index.specs.Classes.{classes_in, with_more_classes};
 ghost use Rattle.rst_markup_directives.specs.Widths.{columns_in};
 ghost use Rattle.rst_block_nodes.specs.TableRequests.{asked_in};
@@ -55,7 +53,14 @@ fn only_table(alloc: Global, nodes: MarkedNodes) -> Option<Table>
     if rest.len() != 1 {
         return None;
     }
-    match rest.next(alloc)?.into_root() {
+    table_in(rest.next(alloc)?.into_root())
+}
+
+/// The parts of a node that is a table.
+fn table_in(node: Node) -> Option<Table>
+    ensures { option_map (λ table. (table.attrs, table.nodes.items, table.line)) result ≡ spec.table_in node }
+{
+    match node {
         Node::Element {
             tag: Tag::Table,
             attrs,
@@ -70,18 +75,26 @@ fn only_table(alloc: Global, nodes: MarkedNodes) -> Option<Table>
     }
 }
 
+/// How many columns a node has that is the group of all rows.
+fn columns_in_node(node: &Node) -> Option<u64>
+    ensures { result ≡ spec.columns_in_node node.now }
+{
+    match node {
+        Node::Element {
+            tag: Tag::Tgroup,
+            attrs,
+            ..
+        } => attrs.number(Key::Cols),
+        _ => None,
+    }
+}
+
 /// How many columns a table with these nodes has.
 fn columns_among(nodes: &[Node]) -> u64
     ensures { result ≡ spec.columns_among nodes.now }
 {
     for node in nodes {
-        if let Node::Element {
-            tag: Tag::Tgroup,
-            attrs,
-            ..
-        } = node
-            && let Some(columns) = attrs.number(Key::Cols)
-        {
+        if let Some(columns) = columns_in_node(node) {
             return columns;
         }
     }
@@ -148,12 +161,11 @@ fn resized_all(alloc: Global, widths: &Option<Widths>, nodes: Vec<Node>) -> Resu
     Ok(made)
 }
 
-/// Takes out the classes among some attributes; none where there are none.
-fn take_classes(alloc: Global, attrs: &mut Attrs) -> Texts
-    ensures classes { result ≡ classes_in (value_of Classes attrs.old) }
-    ensures rest { attrs.new ≡ without_key Classes attrs.old }
+/// The classes that the value of an attribute is, if there is one.
+fn classes_in(alloc: Global, value: Option<Value>) -> Texts
+    ensures { result ≡ classes_in value }
 {
-    match attrs.remove(Key::Classes) {
+    match value {
         Some(Value::List(classes)) => classes,
         _ => Texts::new(alloc),
     }
@@ -163,7 +175,7 @@ fn take_classes(alloc: Global, attrs: &mut Attrs) -> Texts
 fn add_classes(alloc: Global, attrs: &mut Attrs, more: &[Text]) -> Result<()>
     ensures { IfOk result (λ _. attrs.new ≡ with_more_classes more.now attrs.old) }
 {
-    let mut classes = take_classes(alloc, attrs);
+    let mut classes = classes_in(alloc, attrs.remove(Key::Classes));
     for class in more {
         classes.push(class.copy()?)?;
     }
@@ -174,10 +186,11 @@ fn add_classes(alloc: Global, attrs: &mut Attrs, more: &[Text]) -> Result<()>
 fn set_option(alloc: Global, attrs: &mut Attrs, key: Key, value: Value) -> Result<()>
     ensures { IfOk result (λ _. attrs.new ≡ spec.with_option key value attrs.old) }
 {
-    match (key, value) {
-        (Key::Classes, Value::List(more)) => add_classes(alloc, attrs, more.as_slice()),
-        (key, value) => attrs.set(key, value),
+    if key.code() == Key::Classes.code() {
+        let more = classes_in(alloc, Some(value));
+        return add_classes(alloc, attrs, more.as_slice());
     }
+    attrs.set(key, value)
 }
 
 /// Puts the attributes that options give among others.

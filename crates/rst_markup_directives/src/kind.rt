@@ -317,8 +317,11 @@ impl OptionSet {
             ),
             OptionSet::Contents => option == OptionName::Class || option.is_of_contents(),
             OptionSet::Table | OptionSet::ListTable => match option {
-                OptionName::Class | OptionName::Name | OptionName::Width | OptionName::Align => true,
-                OptionName::Widths => true,
+                OptionName::Class
+                | OptionName::Name
+                | OptionName::Width
+                | OptionName::Align
+                | OptionName::Widths => true,
                 _ => self == OptionSet::ListTable && option.is_of_tables(),
             },
             OptionSet::Image | OptionSet::Figure => match option {
