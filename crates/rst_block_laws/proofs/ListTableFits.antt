@@ -1,35 +1,27 @@
 -- A table that is made of lists has at most two levels more than these, and its texts have a property that those in the lists have.
-use Rattle.std.proofs.Common.{◌≡◌, ℕ, ◌+◌, ◌-◌, ◌≤◌, Bool, true, List, [], ◌∷◌, ◌++◌, Option, None, Some, map, take, drop, codes, decimal, length, arith, refl, subst}
+use Rattle.std.proofs.Common.{ℕ, ◌+◌, ◌-◌, ◌≤◌, List, [], ◌∷◌, ◌++◌, Option, None, Some, map, take, drop, length, arith, refl}
 use Rattle.std.specs.Prelude.{if◌then◌else◌, nat_lt, unwrap_or}
-use Rattle.std.specs.List.{list_all}
 use Rattle.std.specs.Option.{IfSome}
-use Rattle.std.proofs.lemmas.Bool.{and_from, and_parts, cond_both}
-use Rattle.std.proofs.lemmas.List.{append-nil}
+use Rattle.std.proofs.lemmas.Bool.{cond_both}
 use Rattle.rst_tree.specs.Attributes.{attr}
 use Rattle.rst_tree.specs.Forest.{Forest, bare}
-use Rattle.rst_tree.specs.Nodes.{children_in, forest_of, nodes_of}
+use Rattle.rst_tree.specs.Nodes.{children_in, nodes_of}
 use Rattle.rst_tree.specs.declared.attrs.Attr.{Attr}
 use Rattle.rst_tree.specs.declared.attrs.Value.TheVariants.{Number}
-use Rattle.rst_tree.specs.declared.key.Key.TheVariants.{Classes, Cols, Colwidth, Stub, TextMessages}
+use Rattle.rst_tree.specs.declared.key.Key.TheVariants.{Classes, Cols}
 use Rattle.rst_tree.specs.declared.node.Node.{Node}
 use Rattle.rst_tree.specs.declared.node.Node.TheVariants.{Element, Text}
-use Rattle.rst_tree.specs.declared.note.Level.TheVariants.{Error}
 use Rattle.rst_tree.specs.declared.tag.Tag.{Tag}
-use Rattle.rst_tree.specs.declared.tag.Tag.TheVariants.{BulletList, Colspec, Entry, Row, Tbody, Tgroup, Thead}
+use Rattle.rst_tree.specs.declared.tag.Tag.TheVariants.{BulletList, Entry, Row, Tbody, Tgroup, Thead}
 use Rattle.rst_markup_directives.specs.Widths.{Columns}
 use Rattle.rst_block_nodes.specs.Elements.{element_of}
-use Rattle.rst_block_nodes.specs.ListTables.{Asked, column_attrs, column_count, column_widths, columns_of, entry_of, items_in, list_items, made_table, only_list, row_cells, row_groups, row_of, table_fault, table_fault_text, table_group, table_or_fault, list_table_by, with_width_class}
-use Rattle.rst_block_nodes.specs.TableOfContents.{uncounted}
-use Rattle.rst_block_nodes.specs.declared.table_faults.TableFault.{TableFault}
-use Rattle.rst_block_nodes.specs.declared.table_faults.TableFault.TheVariants.{FewColumns, FewRows, NoBody, NoInnerList, NoStubless, NotOneList, OtherWidths, Uneven}
-use Rattle.rst_block_state.specs.ListTables.{list_table_nodes, table_or_error}
-use Rattle.rst_block_state.specs.Texts.{message_with_lines}
-use Rattle.rst_tree_laws.proofs.Decimals.{decimal_fixed}
+use Rattle.rst_block_nodes.specs.TableRequests.{Asked}
+use Rattle.rst_block_nodes.specs.ListTables.{column_attrs, column_count, column_widths, columns_of, entry_of, items_in, made_table, only_list, row_cells, row_groups, row_of, table_group, with_width_class}
 use Rattle.rst_tree_laws.proofs.Have.{with_attr_has, without_key_has}
 use Rattle.rst_tree_laws.proofs.Lists.{all_append, all_drop, all_map, all_take}
-use Rattle.rst_tree_laws.proofs.Properties.{Suited, fixed_has}
-use Rattle.rst_tree_laws.specs.Texts.{AttrsHave, is_fixed}
-use Rattle.rst_block_laws.proofs.Fits.{AllFit, Fits, ForestFits, fit_more, fit_nodes, message_fits, open_fits}
+use Rattle.rst_tree_laws.specs.Texts.{AttrsHave}
+use Rattle.rst_block_laws.proofs.Fits.{AllFit, Fits, ForestFits, fit_more, fit_nodes, open_fits}
+use Rattle.rst_block_laws.proofs.TitledTableFits.{title_fits}
 use Rattle.rst_block_laws.proofs.Weights.{HoldsAny, is_flat, light_at, weight, weighed_more}
 
 module _ (T : List ℕ → Type 0) where

@@ -1,5 +1,5 @@
 -- A table that gets a title and options has at most two levels more than its content, and its texts have a property that those in the content have.
-use Rattle.std.proofs.Common.{ℕ, ◌+◌, ◌-◌, ◌≤◌, List, [], ◌∷◌, ◌++◌, Option, None, Some, map, take, drop, arith, refl}
+use Rattle.std.proofs.Common.{ℕ, ◌+◌, ◌-◌, List, [], ◌∷◌, ◌++◌, Option, None, Some, map, take, drop, arith, refl}
 use Rattle.std.specs.Option.{IfSome}
 use Rattle.std.proofs.lemmas.Bool.{cond_both}
 use Rattle.rst_tree.specs.Forest.{Forest}
@@ -22,7 +22,7 @@ use Rattle.rst_tree_laws.proofs.Have.{with_attr_has, without_key_has}
 use Rattle.rst_tree_laws.proofs.Lists.{all_append, all_drop, all_map, all_take}
 use Rattle.rst_tree_laws.specs.Texts.{AttrsHave, ValueHas, becomes_text}
 use Rattle.rst_block_laws.proofs.Fits.{AllFit, Fits, ForestFits, fit_more, fit_nodes, open_fits}
-use Rattle.rst_block_laws.proofs.Weights.{HoldsAny, Open, is_flat, weight, weighed_more}
+use Rattle.rst_block_laws.proofs.Weights.{Open, is_flat, weight, weighed_more}
 
 module _ (T : List ℕ → Type 0) where
   -- ---- the title

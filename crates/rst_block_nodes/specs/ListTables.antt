@@ -1,9 +1,9 @@
 -- Tables that are made of lists (Directives, 'List Table'; Document Tree, 'table').
-use Rattle.std.specs.Prelude.{ℕ, ◌+◌, ◌-◌, ◌/◌, ◌==◌, ◌&&◌, Bool, nat_lt, List, [], ◌∷◌, ◌++◌, length, map, take, drop, replicate, Option, Some, None, unwrap_or, Result, Ok, Err, if◌then◌else◌}
+use Rattle.std.specs.Prelude.{ℕ, ◌+◌, ◌-◌, ◌/◌, ◌==◌, ◌&&◌, nat_lt, List, [], ◌∷◌, ◌++◌, length, map, take, drop, replicate, Option, Some, None, unwrap_or, Result, Ok, Err, if◌then◌else◌}
 use Rattle.std.specs.Option.{option_or, option_map_or}
 use Rattle.rst_tree.specs.Attributes.{attr, value_of, with_attr, without_key}
 use Rattle.rst_tree.specs.Forest.{Forest, bare}
-use Rattle.rst_tree.specs.Nodes.{children_in, forest_of, nodes_of}
+use Rattle.rst_tree.specs.Nodes.{children_in, nodes_of}
 use Rattle.rst_tree.specs.declared.attrs.Attr.{Attr}
 use Rattle.rst_tree.specs.declared.attrs.Value.TheVariants.{Number, List as Listed}
 use Rattle.rst_tree.specs.declared.key.Key.TheVariants.{Classes, Cols, Colwidth, Stub}
