@@ -22,7 +22,7 @@ import sys
 
 from real import DIRECTIVES, TOP
 
-WIDER = "rubric parsed-literal raw compound container class include contents list-table".split()
+WIDER = "rubric parsed-literal raw compound container class include contents table list-table".split()
 ROLES = (
     "abbreviation ab acronym ac math code pep-reference pep rfc-reference rfc raw index i named-reference anonymous-reference footnote-reference "
     "citation-reference substitution-reference target uri-reference uri url emphasis strong literal subscript sub superscript sup "
@@ -39,6 +39,7 @@ KEYWORDS = (
     "$Date: 2005/12/30 10:11:12 $|$date: 2005-12-30T1 $|$Date: 2005/1/3 4 $|$RCSfile: a,v $|$rcsfile: a b,v $|$Id: a b $|$id: q $|$Id:a $|$Id: $|"
     "$Id:  $|$Date$|x $Id: a $ y $Id: b $|$Date: 2005-12-30 (x) $ $Id: z $|$Revision: 4231 $|$a1: b $"
 ).split("|")
+OPTIONS = "class class name file url start-line literal foo sub Class code tab-width depth local backlinks widths widths align".split()
 FIELDS = "author date version revision status contact organization copyright address abstract dedication x class DATE".split()
 
 
@@ -81,14 +82,15 @@ class Maker:
     def options(self) -> list[str]:
         made = []
         for _ in range(self.of(1, 1, 2)):
-            name = self.of("class", "class", "name", "file", "url", "start-line", "literal", "foo", "sub", "Class", "code", "tab-width", "depth", "local", "backlinks")
+            name = self.of(*OPTIONS)
             value = {"name": self.name(), "start-line": self.of("1", "x", "-2"), "literal": self.of("", "x"), "tab-width": self.of("4", "x", "")}
             value |= {"depth": self.of("0", "2", "x"), "local": self.of("", "x"), "backlinks": self.of("top", "Entry", "none", "x")}
+            value |= {"widths": self.of("auto", "grid", "3 5", "10,20", "1", "0"), "align": self.of("left", "center", "top")}
             made.append(f":{name}: {value.get(name, self.of('a', 'a b', ''))}".rstrip())
         return self.of(made, made, made, [":sub:`2`: c"])
 
     def directive(self) -> list[str]:
-        name = self.of(*WIDER, *WIDER, *WIDER, "note", "image", "code", "foo", "table")
+        name = self.of(*WIDER, *WIDER, *WIDER, "note", "image", "code", "foo")
         usual = {"rubric": self.text(), "raw": self.of("html", "HTML  x", "h,t"), "container": self.of("", "a", "A b", "?", "a ?"), "image": "a.png"}
         usual["contents"] = self.of("", self.text())
         usual["class"] = self.of("a", "A b", "b c d", "?")
@@ -97,7 +99,14 @@ class Maker:
         lines += self.indented(self.of([], self.options()), "   ") + self.of([], [""], [""])
         if name == "include" and self.is_so(0.7):
             return lines
+        if name.endswith("table") and self.is_so(0.8):
+            content = self.of(*[self.table(self.plain()) for _ in range(4)], self.lists(), self.lists())
+            return lines + self.of([""], [""], []) + self.indented(content, "   ")
         return lines + self.indented(self.of([], *[self.plain() for _ in range(3)], *[self.block() for _ in range(self.is_so(0.3))]), "   ")
+
+    def lists(self) -> list[str]:
+        """Rows as lists, most of them even."""
+        return [line for _ in range(self.of(1, 2)) for line in ["* - " + self.text(), *self.of(["  - b"], ["  - b"], ["  - b"], [], ["", "  c"])]]
 
     def fields(self) -> list[str]:
         made = []

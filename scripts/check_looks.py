@@ -25,7 +25,7 @@ MACHINE = "rst_block"
 BELOW = "rst_markup_lines rst_markup_blocks rst_markup_directives rst_markup_tables rst_block_nodes rst_block_state rst_block_body rst_block_markup"
 HARMLESS = set(
     "Self usize u64 u128 bool Option Result Ok Err Some None Vec Box ArrayVec Global Model Drop"  # numbers, lists, what is free
-    " Attrs Level Marked MarkedIter MarkedNodes Node Note Parsed Tag Value"  # elements
+    " Attrs Key Level Marked MarkedIter MarkedNodes Node Note Parsed Tag Value"  # elements
     " Parts"  # Booleans
     " View Placement Looks AllocError AllocFailed TextFault".split()  # each line of a view costs a look
 )

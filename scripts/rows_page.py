@@ -31,7 +31,7 @@ SECTIONS = {
         Strong Emphasis; Interpreted Text; Inline Literals; Hyperlink References; Embedded URIs and Aliases; Inline Internal Targets;
         Footnote References; Citation References; Substitution References; Standalone Hyperlinks; Units; Length Units; Percentage Units;
         Error Handling""",
-    "Directives": """Specific Admonitions; Generic Admonition; Image; Figure; Topic; Sidebar; Epigraph; Highlights; Pull-Quote; Code; Parsed Literal Block; Line Block; Math; Rubric; Compound Paragraph; Container; List Table;
+    "Directives": """Specific Admonitions; Generic Admonition; Image; Figure; Topic; Sidebar; Epigraph; Highlights; Pull-Quote; Code; Parsed Literal Block; Line Block; Math; Rubric; Compound Paragraph; Container; Table; List Table;
         Table of Contents; Replacement Text; Including an External Document Fragment; Raw Data Pass-Through; Class; Common Options; Identifier Normalization""",
     "Roles": "Standard Roles",
     "Document Tree": "Introduction; Element Reference; Attribute Reference",

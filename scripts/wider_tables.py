@@ -269,4 +269,159 @@ TABLES = [
 """,
         "",
     ),
+    (
+        "a title and options for a table",
+        ".. table:: The *title*\n   :align: left\n   :width: 10em\n   :class: c\n   :name: n\n   :widths: 10, 20\n\n   +---+---+\n   | a | b |\n   +---+---+\n\nn_\n",
+        """\
+<document source="<stdin>">
+    <table align="left" classes="c colwidths-given" ids="n" names="n" width="10em">
+        <title>
+            The 
+            <emphasis>
+                title
+        <tgroup cols="2">
+            <colspec colwidth="10">
+            <colspec colwidth="20">
+            <tbody>
+                <row>
+                    <entry>
+                        <paragraph>
+                            a
+                    <entry>
+                        <paragraph>
+                            b
+    <paragraph>
+        <reference name="n" refid="n">
+            n
+""",
+        "",
+    ),
+    (
+        "a title for a table of lists",
+        ".. table:: a *b\n   :widths: auto\n   :class: c\n\n   .. list-table::\n      :widths: 1 2\n      :class: d\n\n      * - e\n        - f\n",
+        """\
+<document source="<stdin>">
+    <table classes="colwidths-given d c colwidths-auto">
+        <title>
+            a 
+            <problematic ids="problematic-1" refid="system-message-1">
+                *
+            b
+        <tgroup cols="2">
+            <colspec colwidth="1">
+            <colspec colwidth="2">
+            <tbody>
+                <row>
+                    <entry>
+                        <paragraph>
+                            e
+                    <entry>
+                        <paragraph>
+                            f
+    <system_message backrefs="problematic-1" ids="system-message-1" level="2" line="1" source="<stdin>" type="WARNING">
+        <paragraph>
+            Inline emphasis start-string without end-string.
+""",
+        """\
+<stdin>:1: (WARNING/2) Inline emphasis start-string without end-string.
+""",
+    ),
+    (
+        "tables with the widths that are drawn",
+        "- .. table::\n     :widths: grid\n\n     == ===\n     a  b\n     == ===\n",
+        """\
+<document source="<stdin>">
+    <bullet_list bullet="-">
+        <list_item>
+            <table classes="colwidths-given">
+                <tgroup cols="2">
+                    <colspec colwidth="2">
+                    <colspec colwidth="3">
+                    <tbody>
+                        <row>
+                            <entry>
+                                <paragraph>
+                                    a
+                            <entry>
+                                <paragraph>
+                                    b
+""",
+        "",
+    ),
+    (
+        "something else than a table",
+        ".. table:: t\n\n   == ==\n   a  b\n   == ==\n\n   Text.\n",
+        """\
+<document source="<stdin>">
+    <system_message level="3" line="1" source="<stdin>" type="ERROR">
+        <paragraph>
+            Error parsing content block for the "table" directive: exactly one table expected.
+        <literal_block xml:space="preserve">
+            .. table:: t
+            
+               == ==
+               a  b
+               == ==
+            
+               Text.
+""",
+        """\
+<stdin>:1: (ERROR/3) Error parsing content block for the "table" directive: exactly one table expected.
+
+.. table:: t
+
+   == ==
+   a  b
+   == ==
+
+   Text.
+""",
+    ),
+    (
+        "widths for another table",
+        ".. table::\n   :widths: 1\n\n   == ==\n   a  b\n   == ==\n",
+        """\
+<document source="<stdin>">
+    <system_message level="3" line="1" source="<stdin>" type="ERROR">
+        <paragraph>
+            "table" widths do not match the number of columns in table (2).
+        <literal_block xml:space="preserve">
+            .. table::
+               :widths: 1
+            
+               == ==
+               a  b
+               == ==
+""",
+        """\
+<stdin>:1: (ERROR/3) "table" widths do not match the number of columns in table (2).
+
+.. table::
+   :widths: 1
+
+   == ==
+   a  b
+   == ==
+""",
+    ),
+    (
+        "a title without a table",
+        ".. table:: t\n\n.. note:: a\n",
+        """\
+<document source="<stdin>">
+    <system_message level="2" line="1" source="<stdin>" type="WARNING">
+        <paragraph>
+            Content block expected for the "table" directive; none found.
+        <literal_block xml:space="preserve">
+            .. table:: t
+    <note>
+        <paragraph>
+            a
+""",
+        """\
+<stdin>:1: (WARNING/2) Content block expected for the "table" directive; none found.
+
+.. table:: t
+""",
+    ),
 ]

@@ -72,7 +72,7 @@ pub(crate) fn resume(
             level.append_marked(made)?;
             return Ok(Step::Next);
         }
-        Waits::Rows(boxed) => {
+        Waits::Table(boxed) => {
             let looks = &mut pass.looks;
             let table = Box::into_inner(boxed);
             let made = finished_table(pass.alloc, view, table, nodes, looks)?;

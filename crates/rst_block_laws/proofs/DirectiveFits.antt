@@ -28,7 +28,7 @@ use Rattle.rst_markup_directives.specs.Argument.{ArgumentMeaning, title, uri, la
 use Rattle.rst_markup_directives.specs.declared.found.Content.{Content}
 use Rattle.rst_markup_directives.specs.declared.found.Place.TheVariants.{Substitution}
 use Rattle.rst_markup_directives.specs.declared.kind.ContentKind.{ContentKind}
-use Rattle.rst_markup_directives.specs.declared.kind.ContentKind.TheVariants.{Marked, Verse, Formulas, Classed, Quotes, Entries, Rows}
+use Rattle.rst_markup_directives.specs.declared.kind.ContentKind.TheVariants.{Marked, Verse, Formulas, Classed, Quotes, Entries}
 use Rattle.rst_markup_directives.specs.declared.kind.QuoteClass.{QuoteClass}
 use Rattle.rst_markup_directives.specs.declared.option.OptionName.{OptionName}
 use Rattle.rst_markup_directives.specs.declared.option.OptionName.TheVariants.{Alt, Name, Subtitle}
@@ -38,7 +38,7 @@ use Rattle.rst_markup_directives.specs.Kind.{has_blocks}
 use Rattle.rst_markup_directives.specs.Message.{fault_level, fault_text}
 use Rattle.rst_markup_directives.specs.Options.{OptionSetting}
 use Rattle.rst_markup_directives.specs.Value.{Meaning}
-use Rattle.rst_markup_directives.specs.Wrong.{Fault, disabled, inside as within, invalid_classes, no_content, no_rows, not_in_substitution, sidebar_not_here, unknown_directive}
+use Rattle.rst_markup_directives.specs.Wrong.{Fault, disabled, inside as within, invalid_classes, no_content, no_rows, no_table, not_in_substitution, sidebar_not_here, unknown_directive}
 use Rattle.rst_block_nodes.specs.Admonitions.{title_class}
 use Rattle.rst_block_nodes.specs.Elements.{element_of, plain_node, preserving, substitution_definition_node, text_nodes}
 use Rattle.rst_block_nodes.specs.Options.{body_attrs, given_attrs, image_node, link_attrs, link_chosen, link_meant, linked_by, literal_element, subtitle_chosen, subtitle_meant, with_alt, value_meant, with_value_at, with_choices, with_options, directive_element}
@@ -50,7 +50,7 @@ use Rattle.rst_block_nodes.specs.Targets.{may_replace}
 use Rattle.rst_inline.specs.Elements.{handed_node}
 use Rattle.rst_block_nodes.specs.Texts.{counting}
 use Rattle.rst_block_nodes.specs.Values.{normalized, unescaped}
-use Rattle.rst_block_state.specs.Directives.{closed_by, handed_directive, content_lines, content_nodes, definition_nodes, definition_or_error, directive_by, directive_nodes, element_by, faulty_name, first_paragraph, opened_by, right_nodes, substitution_nodes, marked_nodes, titled_element, titled_start, closed_with, title_text, verse_nodes, classed, class_nodes, completed, with_words, holding}
+use Rattle.rst_block_state.specs.Directives.{closed_by, handed_directive, content_lines, content_nodes, definition_nodes, definition_or_error, directive_by, directive_nodes, element_by, faulty_name, first_paragraph, opened_by, right_nodes, substitution_nodes, marked_nodes, titled_element, titled_start, closed_with, title_text, verse_nodes, classed, class_nodes, completed, completed_by, table_directive, with_words, holding}
 use Rattle.rst_block_state.specs.Figures.{figure_nodes, legend_nodes, message_count}
 use Rattle.rst_block_state.specs.LineRuns.{number_or, verse_lines}
 use Rattle.rst_block_state.specs.Numbered.{just}
@@ -66,7 +66,7 @@ use Rattle.rst_block_laws.proofs.MessageFits.{read_notes_fit}
 use Rattle.rst_block_laws.proofs.Fits.{AllFit, Fits, counting_has, definition_fits, filled_fits, fit_forest, fit_more, fit_nodes, message_fits, open_fits}
 use Rattle.rst_block_laws.proofs.Gives.{Gives, after, give, gives}
 use Rattle.rst_tree_laws.proofs.Have.{text_in_has, with_attr_has, without_key_has}
-use Rattle.rst_block_laws.proofs.ListTableFits.{list_table_fits}
+use Rattle.rst_block_laws.proofs.TableDirectiveFits.{table_directive_fits}
 use Rattle.rst_block_laws.proofs.LineFits.{texted_fit, line_block_fits, verse_kept, PairFits}
 use Rattle.rst_block_laws.proofs.LineTexts.{excerpt_has, first_kept, joined_kept, lines_kept, source_has, spelled_has}
 use Rattle.rst_tree_laws.proofs.Lists.{all_append, all_drop, all_take, all_map}
@@ -81,6 +81,7 @@ module _ (P : ℕ → Bool) (T : List ℕ → Type 0) (s : Suited P T) (c : With
   fault_has (within w) name h k = s.append _ _ (quoted_has P T s (codes "Error in \"") name (codes "\" directive:\n") refl refl k) h
   fault_has sidebar_not_here name h k = quoted_has P T s (codes "The \"") name (codes "\" directive may not be used within topics or body elements.") refl refl k
   fault_has no_rows name h k = quoted_has P T s (codes "The \"") name (codes "\" directive is empty; content required.") refl refl k
+  fault_has no_table name h k = quoted_has P T s (codes "Content block expected for the \"") name (codes "\" directive; none found.") refl refl k
   fault_has no_content name h k = quoted_has P T s (codes "Content block expected for the \"") name (codes "\" directive; none found.") refl refl k
   fault_has (invalid_classes text) name h k =
       s.append _ _ (fixed_has P T s (codes "Invalid class attribute value for \"") refl) (s.append name _ k (s.append _ _ (fixed_has P T s (codes "\" directive: \"") refl) (s.append _ _ h (fixed_has P T s (codes "\".") refl))))
@@ -242,8 +243,10 @@ module _ (P : ℕ → Bool) (T : List ℕ → Type 0) (s : Suited P T) (c : With
   -- an element that may begin with a title, or the table that the nodes of its content make
   completed_fit : (content : ContentKind) (options : List OptionSetting) (start : Node) (line : ℕ) (lines : List ℕ) (nodes : List Node) → HoldsAny start → Fits T (k + 2) start → T lines → AllFit T k nodes
       → AllFit T (k + 2) (completed content options start line lines nodes)
-  completed_fit Rows options start line lines nodes any own l low = list_table_fits P T s k some line lines start _ nodes any own l low
-  completed_fit _ options start line lines nodes any own l low = (filled_fits T start nodes k (k + 2) any own low (omega arith), tt)
+  completed_fit content options start line lines nodes any own l low = elim (table_directive content) as (λ d. AllFit T (k + 2) (completed_by d options start line lines nodes)) [
+    | None ↦ (filled_fits T start nodes k (k + 2) any own low (omega arith), tt)
+    | Some directive ↦ table_directive_fits P T s k some directive line lines start _ nodes any own l low
+  ]
 
   holding_fit : (content : ContentKind) (options : List OptionSetting) (empty : Bool) (t : Tag) (a : List Attr) (line at : ℕ) (lines : List ℕ) (nodes : List Node) → Open t → AttrsHave T a → T lines → AllFit T k nodes
       → AllFit T (k + 2) (holding content options empty (Element t a bare line) at lines nodes)

@@ -10,7 +10,9 @@ pub mod MessageFits
 pub mod MarkFits
 pub mod CellTexts
 pub mod TableFits
+pub mod TitledTableFits
 pub mod ListTableFits
+pub mod TableDirectiveFits
 pub mod DirectiveTexts
 pub mod DirectiveKinds
 pub mod DirectiveFits

@@ -1,74 +1,37 @@
 -- A table that is made of lists has at most two levels more than these, and its texts have a property that those in the lists have.
-use Rattle.std.proofs.Common.{◌≡◌, ℕ, ◌+◌, ◌-◌, ◌≤◌, Bool, true, List, [], ◌∷◌, ◌++◌, Option, None, Some, map, take, drop, codes, decimal, length, arith, refl, subst}
+use Rattle.std.proofs.Common.{ℕ, ◌+◌, ◌-◌, ◌≤◌, List, [], ◌∷◌, ◌++◌, Option, None, Some, map, take, drop, length, arith, refl}
 use Rattle.std.specs.Prelude.{if◌then◌else◌, nat_lt, unwrap_or}
-use Rattle.std.specs.List.{list_all}
 use Rattle.std.specs.Option.{IfSome}
-use Rattle.std.proofs.lemmas.Bool.{and_from, and_parts, cond_both}
-use Rattle.std.proofs.lemmas.List.{append-nil}
+use Rattle.std.proofs.lemmas.Bool.{cond_both}
 use Rattle.rst_tree.specs.Attributes.{attr}
 use Rattle.rst_tree.specs.Forest.{Forest, bare}
-use Rattle.rst_tree.specs.Nodes.{children_in, forest_of, nodes_of}
+use Rattle.rst_tree.specs.Nodes.{children_in, nodes_of}
 use Rattle.rst_tree.specs.declared.attrs.Attr.{Attr}
 use Rattle.rst_tree.specs.declared.attrs.Value.TheVariants.{Number}
-use Rattle.rst_tree.specs.declared.key.Key.TheVariants.{Classes, Cols, Colwidth, Stub, TextMessages}
+use Rattle.rst_tree.specs.declared.key.Key.TheVariants.{Classes, Cols}
 use Rattle.rst_tree.specs.declared.node.Node.{Node}
 use Rattle.rst_tree.specs.declared.node.Node.TheVariants.{Element, Text}
-use Rattle.rst_tree.specs.declared.note.Level.TheVariants.{Error}
 use Rattle.rst_tree.specs.declared.tag.Tag.{Tag}
-use Rattle.rst_tree.specs.declared.tag.Tag.TheVariants.{BulletList, Colspec, Entry, Row, Tbody, Tgroup, Thead}
+use Rattle.rst_tree.specs.declared.tag.Tag.TheVariants.{BulletList, Entry, Row, Tbody, Tgroup, Thead}
 use Rattle.rst_markup_directives.specs.Widths.{Columns}
 use Rattle.rst_block_nodes.specs.Elements.{element_of}
-use Rattle.rst_block_nodes.specs.ListTables.{Asked, column_attrs, column_count, column_widths, columns_of, entry_of, items_in, list_items, made_table, only_list, row_cells, row_groups, row_of, table_fault, table_fault_text, table_group, table_or_fault, list_table_by, with_width_class}
-use Rattle.rst_block_nodes.specs.TableOfContents.{uncounted}
-use Rattle.rst_block_nodes.specs.declared.table_faults.TableFault.{TableFault}
-use Rattle.rst_block_nodes.specs.declared.table_faults.TableFault.TheVariants.{FewColumns, FewRows, NoBody, NoInnerList, NoStubless, NotOneList, OtherWidths, Uneven}
-use Rattle.rst_block_state.specs.ListTables.{list_table_nodes, table_or_error}
-use Rattle.rst_block_state.specs.Texts.{message_with_lines}
-use Rattle.rst_tree_laws.proofs.Decimals.{decimal_fixed}
+use Rattle.rst_block_nodes.specs.TableRequests.{Asked}
+use Rattle.rst_block_nodes.specs.ListTables.{column_attrs, column_count, column_widths, columns_of, entry_of, items_in, made_table, only_list, row_cells, row_groups, row_of, table_group, with_width_class}
 use Rattle.rst_tree_laws.proofs.Have.{with_attr_has, without_key_has}
 use Rattle.rst_tree_laws.proofs.Lists.{all_append, all_drop, all_map, all_take}
-use Rattle.rst_tree_laws.proofs.Properties.{Suited, fixed_has}
-use Rattle.rst_tree_laws.specs.Texts.{AttrsHave, is_fixed}
-use Rattle.rst_block_laws.proofs.Fits.{AllFit, Fits, ForestFits, fit_more, fit_nodes, message_fits, open_fits}
+use Rattle.rst_tree_laws.specs.Texts.{AttrsHave}
+use Rattle.rst_block_laws.proofs.Fits.{AllFit, Fits, ForestFits, fit_more, fit_nodes, open_fits}
+use Rattle.rst_block_laws.proofs.TitledTableFits.{title_fits}
 use Rattle.rst_block_laws.proofs.Weights.{HoldsAny, is_flat, light_at, weight, weighed_more}
 
-text_fixed : (a b : List ℕ) → list_all is_fixed a ≡ true → list_all is_fixed b ≡ true → list_all is_fixed (a ++ b) ≡ true
-text_fixed [] b p q = q
-text_fixed (c ∷ cs) b p q = let parts = and_parts (is_fixed c) (list_all is_fixed cs) p in and_from (is_fixed c) (list_all is_fixed (cs ++ b)) parts.0 (text_fixed cs b parts.1 q)
-
-counted_fixed : (a : List ℕ) (n : ℕ) (b : List ℕ) → list_all is_fixed a ≡ true → list_all is_fixed b ≡ true → list_all is_fixed (a ++ decimal n ++ b) ≡ true
-counted_fixed a n b p q =
-    let number : list_all is_fixed (decimal n) ≡ true = subst (λ t. list_all is_fixed t ≡ true) (append-nil (decimal n)) (decimal_fixed n [] refl) in
-    text_fixed (a ++ decimal n) b (text_fixed a (decimal n) p number) q
-
-few_fixed : (n : ℕ) (a : List ℕ) (m : ℕ) (b : List ℕ) → list_all is_fixed a ≡ true → list_all is_fixed b ≡ true → list_all is_fixed (decimal n ++ a ++ decimal m ++ b) ≡ true
-few_fixed n a m b p q = counted_fixed (decimal n ++ a) m b (decimal_fixed n a p) q
-
-fault_fixed : (fault : TableFault) → list_all is_fixed (table_fault_text fault) ≡ true
-fault_fixed NotOneList = refl
-fault_fixed (NoInnerList row) = decimal_fixed row (codes " does not contain a second-level bullet list.") refl
-fault_fixed (Uneven row cells columns) =
-    let before : List ℕ = codes "uniform two-level bullet list expected, but row " in
-    let between : List ℕ = codes " does not contain the same number of items as row 1 (" in
-    text_fixed (codes "Error parsing content block for the \"list-table\" directive: ")
-    (before ++ decimal row ++ between ++ decimal cells ++ codes " vs " ++ decimal columns ++ codes ").") refl
-    (counted_fixed (before ++ decimal row ++ between ++ decimal cells ++ codes " vs ") columns (codes ").")
-    (counted_fixed (before ++ decimal row ++ between) cells (codes " vs ") (counted_fixed before row between refl refl) refl) refl)
-fault_fixed (OtherWidths columns) = decimal_fixed columns (codes ").") refl
-fault_fixed (FewRows heads rows) = few_fixed heads (codes " header row(s) specified but only ") rows (codes " row(s) of data supplied (\"list-table\" directive).") refl refl
-fault_fixed (NoBody rows) = decimal_fixed rows (codes " row(s)); no data remaining for table body, required by \"list-table\" directive.") refl
-fault_fixed (FewColumns stubs columns) =
-    few_fixed stubs (codes " stub column(s) specified but only ") columns (codes " columns(s) of data supplied (\"list-table\" directive).") refl refl
-fault_fixed (NoStubless columns) = decimal_fixed columns (codes " columns(s)); no data remaining for table body, required by \"list-table\" directive.") refl
-
-module _ (P : ℕ → Bool) (T : List ℕ → Type 0) (s : Suited P T) where
+module _ (T : List ℕ → Type 0) where
   -- ---- the lists
 
   items_fit : (t : Tag) (content : Forest) (j : ℕ) → ForestFits T j content → IfSome (items_in t content) (AllFit T j)
   items_fit BulletList content j h = fit_nodes T j content h
   items_fit _ content j h = tt
 
-  only_fit : (j : ℕ) (ns : List Node) → AllFit T j ns → IfSome (only_list ns) (AllFit T (j - 1))
+  pub only_fit : (j : ℕ) (ns : List Node) → AllFit T j ns → IfSome (only_list ns) (AllFit T (j - 1))
   only_fit j [] h = tt
   only_fit j (Element t a c l ∷ []) h = items_fit t c (j - 1) (omega (arith, h.0.0, weighed_more (is_flat t c) (weight c)), h.0.1.1)
   only_fit j (Text t ∷ []) h = tt
@@ -120,29 +83,9 @@ module _ (P : ℕ → Bool) (T : List ℕ → Type 0) (s : Suited P T) where
   class_has None a h = h
   class_has (Some columns) a h = with_attr_has T Classes _ _ tt (without_key_has T Classes a h)
 
-  uncounted_fits : (j : ℕ) (n : Node) → Fits T j n → Fits T j (uncounted n)
-  uncounted_fits j (Element t a content line) h = (h.0, (without_key_has T TextMessages a h.1.0, h.1.1))
-  uncounted_fits j (Text t) h = h
-
-  table_fit : (k : ℕ) → 3 ≤ k → (start : Node) (asked : Asked) (line : ℕ) (items : List Node) → HoldsAny start → Fits T (k + 2) start → AllFit T (k - 1) items → AllFit T (k + 2) (made_table start asked line items)
+  pub table_fit : (k : ℕ) → 3 ≤ k → (start : Node) (asked : Asked) (line : ℕ) (items : List Node) → HoldsAny start → Fits T (k + 2) start → AllFit T (k - 1) items → AllFit T (k + 2) (made_table start asked line items)
   table_fit k some (Element t a c l) asked line items any h low =
       let inside : AllFit T (k + 1) (nodes_of c) = fit_nodes T (k + 1) c (omega (arith, h.0, weighed_more (is_flat t c) (weight c)), h.1.1) in
       let group = group_fits (k - 1) (omega arith) asked line items low in
-      let title : AllFit T (k + 1) (map uncounted (take 1 (nodes_of c))) = all_map (Fits T (k + 1)) (Fits T (k + 1)) uncounted (uncounted_fits (k + 1)) (take 1 (nodes_of c)) (all_take _ 1 (nodes_of c) inside) in
-      let nodes : AllFit T (k + 1) (map uncounted (take 1 (nodes_of c)) ++ table_group asked line items ∷ []) =
-      all_append (Fits T (k + 1)) (map uncounted (take 1 (nodes_of c))) (table_group asked line items ∷ []) title ((omega (arith, group.0), group.1), tt) in
-      (open_fits T t (with_width_class asked.columns a) l (k + 1) (k + 2) _ any (class_has asked.columns a h.1.0) nodes (omega arith), fit_more T (k + 1) (k + 2) (drop 1 (nodes_of c)) (omega arith) (all_drop _ 1 (nodes_of c) inside))
+      title_fits T k t (with_width_class asked.columns a) (nodes_of c) (table_group asked line items ∷ []) l any (class_has asked.columns a h.1.0) inside ((omega (arith, group.0), group.1), tt)
   table_fit k some (Text t) asked line items any h low = (h, tt)
-
-  pub list_table_fits : (k : ℕ) → 3 ≤ k → (line : ℕ) (lines : List ℕ) (start : Node) (asked : Asked) (ns : List Node) → HoldsAny start → Fits T (k + 2) start → T lines → AllFit T k ns
-      → AllFit T (k + 2) (list_table_nodes line lines start asked ns)
-  list_table_fits k some line lines start asked ns any own l low = elim (only_list ns) as (λ o. IfSome o (AllFit T (k - 1)) → AllFit T (k + 2) (table_or_error line lines (list_table_by o start asked line))) [
-    | None ↦ λ h. (error NotOneList, tt)
-    | Some items ↦ λ h. elim (table_fault asked items) as (λ f. AllFit T (k + 2) (table_or_error line lines (table_or_fault f start asked line items))) [
-      | None ↦ table_fit k some start asked line items any own h
-      | Some fault ↦ (error fault, tt)
-    ]
-  ] (only_fit k ns low)
-    where
-      error : (fault : TableFault) → Fits T (k + 2) (message_with_lines Error line (table_fault_text fault) lines)
-      error fault = message_fits T (k + 2) (omega arith) Error line (table_fault_text fault) (Some lines) (fixed_has P T s (table_fault_text fault) (fault_fixed fault)) l

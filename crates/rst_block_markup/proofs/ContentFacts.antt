@@ -27,7 +27,7 @@ use Rattle.rst_markup_directives.specs.declared.found.Place.{Place}
 use Rattle.rst_markup_directives.specs.declared.kind.ArgumentKind.{ArgumentKind}
 use Rattle.rst_markup_directives.specs.declared.kind.ArgumentKind.TheVariants.{Absent}
 use Rattle.rst_markup_directives.specs.declared.kind.ContentKind.{ContentKind}
-use Rattle.rst_markup_directives.specs.declared.kind.ContentKind.TheVariants.{Blocks, Caption, Classed, Paragraph, Quotes, Rows}
+use Rattle.rst_markup_directives.specs.declared.kind.ContentKind.TheVariants.{Blocks, Caption, Classed, OneTable, Paragraph, Quotes, Rows}
 use Rattle.rst_markup_directives.specs.declared.kind.Kind.{Kind}
 use Rattle.rst_block_state.specs.looks.Budget.{sum_of}
 use Rattle.rst_block_state.specs.looks.BudgetLaws.{is_trimmed, IsFronted, HaveAtMostLines}
@@ -76,6 +76,7 @@ no_text Caption b = refl
 no_text (Quotes class) b = refl
 no_text Classed b = refl
 no_text Rows b = refl
+no_text OneTable b = refl
 no_text _ b = absurd (let no : false ≡ true = b in cc)
 
 parts_laid : (parts : Parts) (content : ContentKind) (argument : ArgumentKind) (run : List Text) (H : Block) → has_blocks content ≡ true → is_trimmed H ≡ true → length run ≤ length H

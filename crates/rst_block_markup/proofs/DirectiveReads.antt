@@ -13,17 +13,18 @@ use Rattle.rst_markup_directives.specs.Options.{OptionSetting, choices_in}
 use Rattle.rst_markup_directives.specs.declared.argument.Argument.{Argument}
 use Rattle.rst_markup_directives.specs.declared.argument.Argument.TheVariants.{Title, Uri}
 use Rattle.rst_markup_directives.specs.declared.kind.ContentKind.{ContentKind}
-use Rattle.rst_markup_directives.specs.declared.kind.ContentKind.TheVariants.{Classed, Quotes, Rows}
+use Rattle.rst_markup_directives.specs.declared.kind.ContentKind.TheVariants.{Classed, Quotes}
 use Rattle.rst_markup_directives.specs.declared.kind.QuoteClass.{QuoteClass}
 use Rattle.rst_markup_directives.specs.declared.options.Setting.{Setting}
 use Rattle.rst_block_nodes.specs.Options.{directive_element, figure_element, image_element}
-use Rattle.rst_block_nodes.specs.ListTables.{Asked, asked_in, asked_of}
+use Rattle.rst_block_nodes.specs.TableRequests.{Asked, asked_in, asked_of}
 use Rattle.rst_block_nodes.specs.Sections.{filled}
+use Rattle.rst_block_nodes.specs.declared.table_faults.TableDirective.{TableDirective}
 use Rattle.rst_block_nodes.specs.declared.table_requests.TableOptions.{TableOptions}
-use Rattle.rst_block_state.specs.Directives.{class_nodes, closed_nodes, completed, content_nodes, holding, titled_nodes, titled_start, plain_nodes, figure_of, opened_by}
+use Rattle.rst_block_state.specs.Directives.{class_nodes, closed_nodes, completed, completed_by, content_nodes, holding, titled_nodes, titled_start, plain_nodes, figure_of, opened_by, table_directive}
 use Rattle.rst_block_state.specs.Figures.{caption_error, figure_nodes}
 use Rattle.rst_block_state.specs.Inside.{content_blocks}
-use Rattle.rst_block_state.specs.ListTables.{list_table_nodes}
+use Rattle.rst_block_state.specs.TableDirectives.{directive_table_nodes}
 use Rattle.rst_block_markup.specs.MarkupSteps.{IsDirectiveRead, IsForContent, IsOpenedRead, made_of_content, marked_text, read_of_directive, reads_with}
 use Rattle.rst_block_markup.specs.declared.directive.Found.{Found}
 use Rattle.rst_block_state.specs.machine.Meanings.{within_at, reads_from, comes, Keeps, deepest, resumed}
@@ -36,7 +37,7 @@ use Rattle.rst_block_nodes.specs.declared.fault.BlockFault.TheVariants.{TooDeep,
 use Rattle.rst_block_state.specs.declared.open_block.OpenBlock.{OpenBlock}
 use Rattle.rst_block_state.specs.declared.waits.OpenTable.{OpenTable}
 use Rattle.rst_block_state.specs.declared.waits.Waits.{Waits}
-use Rattle.rst_block_state.specs.declared.waits.Waits.TheVariants.{Element, Rows as WaitsForRows}
+use Rattle.rst_block_state.specs.declared.waits.Waits.TheVariants.{Element, Table as WaitsForTable}
 use Rattle.std.specs.declared.alloc.Global.{Global}
 use Rattle.rst_block_state.specs.declared.step.Step.{Step}
 use Rattle.rst_block_state.specs.declared.step.Step.TheVariants.{Next, Open}
@@ -103,32 +104,28 @@ text_is {parts} {asked} {line} {at} {t} {u} literal read p l e = ap (λ x. marke
 
 -- ---- what a block waits for
 
--- a content that makes no table is held by the directive's element
-filled_as : (content : ContentKind) (options : List OptionSetting) (element : Node) (line : ℕ) (lines : List ℕ) (ns : List Node) → (content ≡ Rows → ⊥) → completed content options element line lines ns ≡ filled element ns ∷ []
-filled_as Rows options element line lines ns other = absurd (other refl)
-filled_as _ options element line lines ns other = refl
-
-pub element_waits : (f : Found) (start : ℕ) (element : Node) → (f.kind.content ≡ Rows → ⊥) → IsForContent f start element (Element element)
+pub element_waits : (f : Found) (start : ℕ) (element : Node) → None ≡ table_directive f.kind.content → IsForContent f start element (Element element)
 element_waits f start element other = record {
   one = tt;
   waiting = λ B at. tt;
   looks = omega arith;
   made = λ l B ns. ap (λ (x : List Node). reads_from l B x l.at)
-      (sym (filled_as f.kind.content (choices_in f.options.items) element (first_number (drop start B)) (span_source B (record { start = start; stop = f.end })) ns other));
+      (ap (λ o. completed_by o (choices_in f.options.items) element (first_number (drop start B)) (span_source B (record { start = start; stop = f.end })) ns) other);
 }
 
-pub rows_wait : (f : Found) (start : ℕ) (element : Node) (asked : TableOptions) (boxed : Box OpenTable Global) → f.kind.content ≡ Rows → box_value boxed ≡ record { table = element; asked = asked; start = start; end = f.end }
-    → asked_in asked ≡ asked_of (choices_in f.options.items) → IsForContent f start element (WaitsForRows boxed)
-rows_wait f start element asked boxed is table same = record {
+pub table_waits : (f : Found) (start : ℕ) (directive : TableDirective) (element : Node) (asked : TableOptions) (boxed : Box OpenTable Global) → Some directive ≡ table_directive f.kind.content
+    → box_value boxed ≡ record { directive = directive; table = element; asked = asked; start = start; end = f.end } → asked_in asked ≡ asked_of (choices_in f.options.items)
+    → IsForContent f start element (WaitsForTable boxed)
+table_waits f start directive element asked boxed is table same = record {
   one = tt;
   waiting = λ B at. tt;
   looks = omega (arith, ap (λ (t : OpenTable). t.end - t.start) table);
   made = λ l B ns.
       let line : ℕ = first_number (drop start B) in
       let lines : List ℕ = span_source B (record { start = start; stop = f.end }) in
-      let nodes : OpenTable → List Node = λ t. list_table_nodes (first_number (drop t.start B)) (span_source B (record { start = t.start; stop = t.end })) t.table (asked_in t.asked) ns in
+      let nodes : OpenTable → List Node = λ t. directive_table_nodes t.directive (first_number (drop t.start B)) (span_source B (record { start = t.start; stop = t.end })) t.table (asked_in t.asked) ns in
       ap (λ (x : List Node). reads_from l B x l.at)
-      (ap nodes table ∙ ap (λ (a : Asked). list_table_nodes line lines element a ns) same ∙ ap (λ k. completed k (choices_in f.options.items) element line lines ns) (sym is));
+      (ap nodes table ∙ ap (λ (a : Asked). directive_table_nodes directive line lines element a ns) same ∙ ap (λ o. completed_by o (choices_in f.options.items) element line lines ns) is);
 }
 
 -- ---- what comes

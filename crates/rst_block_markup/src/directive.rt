@@ -25,6 +25,7 @@ use super::classes::class_block;
 use super::closed::closed_nodes;
 use super::explicit::put;
 use super::single::is_single_paragraph;
+use super::tables::table_directive;
 use rst_block_nodes::{
     append, directive_element, figure, filled, handed_directive, image, message, subtitle,
     table_options, with_text, with_title_class,
@@ -323,7 +324,7 @@ fn plain_block(
     Ok(opened(level, waits, found))
 }
 
-/// What a block waits for that has the element of a directive: the element's content, or the rows of a table.
+/// What a block waits for that has the element of a directive: the element's content, or what a table is made of.
 fn content_waits(
     alloc: Global,
     start: usize,
@@ -332,18 +333,17 @@ fn content_waits(
 ) -> Result<Waits, AllocError>
     ensures { IfOk result (IsForContent found.now start element) }
 {
-    match found.kind.content {
-        ContentKind::Rows => {
-            let table = OpenTable {
-                table: element,
-                asked: table_options(alloc, found.options.as_slice())?,
-                start,
-                end: found.end,
-            };
-            Ok(Waits::Rows(Box::new(alloc, table)?))
-        }
-        _ => Ok(Waits::Element(element)),
-    }
+    let Some(directive) = table_directive(found.kind.content) else {
+        return Ok(Waits::Element(element));
+    };
+    let table = OpenTable {
+        directive,
+        table: element,
+        asked: table_options(alloc, found.options.as_slice())?,
+        start,
+        end: found.end,
+    };
+    Ok(Waits::Table(Box::new(alloc, table)?))
 }
 
 /// A figure with its image.

@@ -7,14 +7,14 @@ mod contents;
 mod directive;
 mod explicit;
 mod figure;
-mod list_tables;
 mod quotes;
 mod single;
 mod substitution;
+mod tables;
 
 pub use classes::finished_classes;
 pub use explicit::explicit_markup;
 pub use figure::finished_figure;
-pub use list_tables::finished_table;
 pub use quotes::finished_quotes;
 pub use substitution::finished_replacement;
+pub use tables::finished_table;

@@ -11,3 +11,4 @@ pub mod SectionLemmas
 pub mod FormulaLemmas
 pub mod ContentsLemmas
 pub mod ListTableLemmas
+pub mod TitledTableLemmas

@@ -10,6 +10,9 @@ pub mod Terms
 pub mod Numbered
 pub mod Readings
 pub mod TableOfContents
+pub mod TableRequests
+pub mod TableFaults
+pub mod TitledTables
 pub mod ListTables
 pub mod LineBlocks
 pub mod Whole

@@ -1,9 +1,9 @@
 -- Tables that are made of lists (Directives, 'List Table'; Document Tree, 'table').
-use Rattle.std.specs.Prelude.{ℕ, ◌+◌, ◌-◌, ◌/◌, ◌==◌, ◌&&◌, Bool, nat_lt, List, [], ◌∷◌, ◌++◌, length, map, take, drop, replicate, codes, decimal, Option, Some, None, option_map, unwrap_or, Result, Ok, Err, if◌then◌else◌}
+use Rattle.std.specs.Prelude.{ℕ, ◌+◌, ◌-◌, ◌/◌, ◌==◌, ◌&&◌, nat_lt, List, [], ◌∷◌, ◌++◌, length, map, take, drop, replicate, Option, Some, None, unwrap_or, Result, Ok, Err, if◌then◌else◌}
 use Rattle.std.specs.Option.{option_or, option_map_or}
 use Rattle.rst_tree.specs.Attributes.{attr, value_of, with_attr, without_key}
 use Rattle.rst_tree.specs.Forest.{Forest, bare}
-use Rattle.rst_tree.specs.Nodes.{children_in, forest_of, nodes_of}
+use Rattle.rst_tree.specs.Nodes.{children_in, nodes_of}
 use Rattle.rst_tree.specs.declared.attrs.Attr.{Attr}
 use Rattle.rst_tree.specs.declared.attrs.Value.TheVariants.{Number, List as Listed}
 use Rattle.rst_tree.specs.declared.key.Key.TheVariants.{Classes, Cols, Colwidth, Stub}
@@ -11,41 +11,15 @@ use Rattle.rst_tree.specs.declared.node.Node.{Node}
 use Rattle.rst_tree.specs.declared.node.Node.TheVariants.{Element, Text}
 use Rattle.rst_tree.specs.declared.tag.Tag.{Tag}
 use Rattle.rst_tree.specs.declared.tag.Tag.TheVariants.{BulletList, Colspec, Entry, Row, Tbody, Tgroup, Thead}
-use Rattle.rst_markup_directives.specs.Options.{OptionSetting}
-use Rattle.rst_markup_directives.specs.Value.{Meaning, numbered, sized}
-use Rattle.rst_markup_directives.specs.Widths.{Columns, columns_class, columns_in, given}
-use Rattle.rst_markup_directives.specs.declared.option.OptionName.{OptionName}
-use Rattle.rst_markup_directives.specs.declared.option.OptionName.TheVariants.{HeaderRows, StubColumns, Widths}
+use Rattle.rst_markup_directives.specs.Widths.{Columns, columns_class, given}
 use Rattle.rst_block_nodes.specs.Elements.{element_of}
-use Rattle.rst_block_nodes.specs.TableOfContents.{listed, uncounted}
-use Rattle.rst_block_nodes.specs.declared.table_requests.TableOptions.{TableOptions}
+use Rattle.rst_block_nodes.specs.TableFaults.{widths_fault}
+use Rattle.rst_block_nodes.specs.TableOfContents.{listed}
+use Rattle.rst_block_nodes.specs.TableRequests.{Asked}
+use Rattle.rst_block_nodes.specs.TitledTables.{with_title}
+use Rattle.rst_block_nodes.specs.declared.table_faults.TableDirective.TheVariants.{ListTable}
 use Rattle.rst_block_nodes.specs.declared.table_faults.TableFault.{TableFault}
-use Rattle.rst_block_nodes.specs.declared.table_faults.TableFault.TheVariants.{FewColumns, FewRows, NoBody, NoInnerList, NoStubless, NotOneList, OtherWidths, Uneven}
-
--- ---- what its options ask for
-
--- what the options of a table ask for beside its attributes: how many of its rows are its head, how many of its columns are stubs, and the widths
--- of the columns
-pub record Asked : Type 0 where
-  pub heads : ℕ
-  pub stubs : ℕ
-  pub columns : Option Columns
-
--- with what one more option asks for
-abbrev pub asking : OptionName → Meaning → Asked → Asked
-asking HeaderRows (numbered n) asked = record asked { heads = n }
-asking StubColumns (numbered n) asked = record asked { stubs = n }
-asking Widths (sized columns) asked = record asked { columns = Some columns }
-asking _ _ asked = asked
-
--- with what options ask for, one after the other
-abbrev pub asked_by : List OptionSetting → Asked → Asked
-asked_by [] asked = asked
-asked_by (ch ∷ more) asked = asked_by more (asking ch.0 ch.1 asked)
-
--- without an option for it, no row is head, no column is a stub, and nothing is said of widths
-abbrev pub asked_of : List OptionSetting → Asked
-asked_of choices = asked_by choices (record { heads = 0; stubs = 0; columns = None })
+use Rattle.rst_block_nodes.specs.declared.table_faults.TableFault.TheVariants.{FewColumns, FewRows, NoBody, NoInnerList, NoStubless, NotOneList, Uneven}
 
 -- ---- its rows
 
@@ -85,11 +59,6 @@ abbrev pub rows_fault : ℕ → ℕ → List Node → Option TableFault
 rows_fault row columns [] = None
 rows_fault row columns (item ∷ items) = option_or (row_fault row columns (row_cells item)) (rows_fault (row + 1) columns items)
 
--- widths that are given are as many as the columns
-abbrev pub widths_fault : ℕ → Option Columns → Option TableFault
-widths_fault columns (Some (given widths)) = if length widths == columns then None else Some (OtherWidths columns)
-widths_fault columns _ = None
-
 -- some rows are left after the head
 abbrev pub heads_fault : ℕ → ℕ → Option TableFault
 heads_fault heads rows = if nat_lt rows heads then Some (FewRows heads rows) else if nat_lt 0 heads && rows == heads then Some (NoBody rows) else None
@@ -102,29 +71,7 @@ stubs_fault stubs columns = if nat_lt columns stubs then Some (FewColumns stubs 
 abbrev pub table_fault : Asked → List Node → Option TableFault
 table_fault asked items =
     option_or (rows_fault 1 (column_count items) items)
-    (option_or (widths_fault (column_count items) asked.columns) (option_or (heads_fault asked.heads (length items)) (stubs_fault asked.stubs (column_count items))))
-
--- a fault of the lists
-abbrev pub lists_text : List ℕ → List ℕ
-lists_text what = codes "Error parsing content block for the \"list-table\" directive: " ++ what
-
--- the text of the ERROR
-abbrev pub table_fault_text : TableFault → List ℕ
-table_fault_text NotOneList = lists_text (codes "exactly one bullet list expected.")
-table_fault_text (NoInnerList row) =
-    lists_text (codes "two-level bullet list expected, but row " ++ decimal row ++ codes " does not contain a second-level bullet list.")
-table_fault_text (Uneven row cells columns) =
-    lists_text (codes "uniform two-level bullet list expected, but row " ++ decimal row ++ codes " does not contain the same number of items as row 1 (" ++ decimal cells
-    ++ codes " vs " ++ decimal columns ++ codes ").")
-table_fault_text (OtherWidths columns) = codes "\"list-table\" widths do not match the number of columns in table (" ++ decimal columns ++ codes ")."
-table_fault_text (FewRows heads rows) =
-    decimal heads ++ codes " header row(s) specified but only " ++ decimal rows ++ codes " row(s) of data supplied (\"list-table\" directive)."
-table_fault_text (NoBody rows) =
-    codes "Insufficient data supplied (" ++ decimal rows ++ codes " row(s)); no data remaining for table body, required by \"list-table\" directive."
-table_fault_text (FewColumns stubs columns) =
-    decimal stubs ++ codes " stub column(s) specified but only " ++ decimal columns ++ codes " columns(s) of data supplied (\"list-table\" directive)."
-table_fault_text (NoStubless columns) =
-    codes "Insufficient data supplied (" ++ decimal columns ++ codes " columns(s)); no data remaining for table body, required by \"list-table\" directive."
+    (option_or (widths_fault ListTable (column_count items) asked.columns) (option_or (heads_fault asked.heads (length items)) (stubs_fault asked.stubs (column_count items))))
 
 -- ---- its elements
 
@@ -169,7 +116,7 @@ with_width_class None attrs = attrs
 -- A table, which begins with its title and the messages on this, or with nothing. The messages follow the table.
 abbrev pub made_table : Node → Asked → ℕ → List Node → List Node
 made_table (Element t a content l) asked line items =
-    element_of t (with_width_class asked.columns a) (map uncounted (take 1 (nodes_of content)) ++ table_group asked line items ∷ []) l ∷ drop 1 (nodes_of content)
+    with_title t (with_width_class asked.columns a) (nodes_of content) (table_group asked line items ∷ []) l
 made_table (Text t) asked line items = Text t ∷ []
 
 -- a table of these items, or what is wrong
@@ -185,9 +132,3 @@ list_table_by None start asked line = Err NotOneList
 -- the table of a content, or what is wrong with that
 abbrev pub list_table : Node → Asked → ℕ → List Node → Result (List Node) TableFault
 list_table start asked line nodes = list_table_by (only_list nodes) start asked line
-
--- ---- as it is kept
-
--- the meaning of what is asked for
-abbrev pub asked_in : TableOptions → Asked
-asked_in options = record { heads = options.heads; stubs = options.stubs; columns = option_map columns_in options.widths }

@@ -5,12 +5,12 @@ ghost use Rattle.std.specs.Result.{result_map_both};
 ghost use Rattle.rst_tree.specs.Nodes.{children_in, forest_of, nodes_of};
 ghost use Rattle.rst_markup_directives.specs.Widths.{columns_in};
 ghost use Rattle.rst_block_nodes.specs.ListTables as spec;
-ghost use Rattle.rst_block_nodes.specs.TableOfContents as titles;
+ghost use Rattle.rst_block_nodes.specs.TableRequests.{asked_in};
 
-use super::contents::append;
 use super::nodes::element_of;
-use super::table_faults::TableFault;
+use super::table_faults::{TableDirective, TableFault, widths_fault};
 use super::table_requests::TableOptions;
+use super::table_titles::with_title;
 use rst_markup_directives::Widths;
 use rst_tree::{Attrs, Key, Node, Result, Tag, Text, Texts, Value};
 use rst_tree_index::MarkedNodes;
@@ -27,7 +27,7 @@ pub fn list_table(
     line: usize,
     content: MarkedNodes,
 ) -> Result<Result<Vec<Node>, TableFault>>
-    ensures { IfOk result (λ made. result_map_both (λ nodes. nodes.items) (λ fault. fault) made ≡ spec.list_table start (spec.asked_in asked.now) line content) }
+    ensures { IfOk result (λ made. result_map_both (λ nodes. nodes.items) (λ fault. fault) made ≡ spec.list_table start (asked_in asked.now) line content) }
 {
     let Some(items) = list_items(alloc, content) else {
         return Ok(Err(TableFault::NotOneList));
@@ -97,13 +97,13 @@ fn column_count(items: &[Node]) -> usize
 
 /// What is wrong with a table of these items.
 fn table_fault(asked: &TableOptions, items: &[Node]) -> Option<TableFault>
-    ensures { result ≡ spec.table_fault (spec.asked_in asked.now) items.now }
+    ensures { result ≡ spec.table_fault (asked_in asked.now) items.now }
 {
     let columns = column_count(items);
     if let Some(fault) = rows_fault(columns, items) {
         return Some(fault);
     }
-    if let Some(fault) = widths_fault(columns, &asked.widths) {
+    if let Some(fault) = widths_fault(TableDirective::ListTable, columns as u64, &asked.widths) {
         return Some(fault);
     }
     if let Some(fault) = heads_fault(asked.heads, items.len()) {
@@ -129,18 +129,6 @@ fn rows_fault(columns: usize, items: &[Node]) -> Option<TableFault>
         }
     }
     None
-}
-
-/// Whether widths that are given are another number than that of the columns.
-fn widths_fault(columns: usize, widths: &Option<Widths>) -> Option<TableFault>
-    ensures { result ≡ spec.widths_fault columns (option_map columns_in widths.now) }
-{
-    match widths {
-        Some(Widths::Given(widths)) if widths.len() != columns => {
-            Some(TableFault::OtherWidths(columns))
-        }
-        _ => None,
-    }
 }
 
 /// Whether no row is left after the head.
@@ -288,7 +276,7 @@ fn add_rows(alloc: Global, heads: u64, mut rows: Vec<Node>, nodes: &mut Vec<Node
 
 /// The group of all rows of a table, with its columns.
 fn table_group(alloc: Global, asked: &TableOptions, line: usize, items: Vec<Node>) -> Result<Node>
-    ensures { IfOk result (λ node. node ≡ spec.table_group (spec.asked_in asked.now) line items.items) }
+    ensures { IfOk result (λ node. node ≡ spec.table_group (asked_in asked.now) line items.items) }
 {
     let columns = column_count(items.as_slice());
     let widths = column_widths(alloc, columns, &asked.widths)?;
@@ -316,20 +304,6 @@ fn add_width_class(alloc: Global, attrs: &mut Attrs, widths: &Option<Widths>) ->
     attrs.set(Key::Classes, Value::List(classes))
 }
 
-/// Nodes without the numbers of their texts' messages.
-fn uncounted(alloc: Global, nodes: Vec<Node>) -> Result<Vec<Node>>
-    ensures { IfOk result (λ made. made.items ≡ map titles.uncounted nodes.items) }
-{
-    let mut made = Vec::new(alloc);
-    for mut node in nodes {
-        if let Node::Element { attrs, .. } = &mut node {
-            let _count = attrs.remove(Key::TextMessages);
-        }
-        made.push(node)?;
-    }
-    Ok(made)
-}
-
 /// A table that begins with its title and the messages on this, or with nothing, and these messages after it.
 fn made_table(
     alloc: Global,
@@ -338,7 +312,7 @@ fn made_table(
     line: usize,
     items: Vec<Node>,
 ) -> Result<Vec<Node>>
-    ensures { IfOk result (λ nodes. nodes.items ≡ spec.made_table start (spec.asked_in asked.now) line items.items) }
+    ensures { IfOk result (λ nodes. nodes.items ≡ spec.made_table start (asked_in asked.now) line items.items) }
 {
     let mut made = Vec::new(alloc);
     match start {
@@ -349,15 +323,12 @@ fn made_table(
             line: own_line,
         } => {
             add_width_class(alloc, &mut attrs, &asked.widths)?;
-            let mut title = children.into_list();
-            let count = if title.is_empty() { 0 } else { 1 };
-            let notes = title.split_off(count)?;
-            let mut nodes = uncounted(alloc, title)?;
-            nodes.push(table_group(alloc, asked, line, items)?)?;
-            made.push(element_of(tag, attrs, nodes, own_line))?;
-            append(&mut made, notes)?;
+            made.push(table_group(alloc, asked, line, items)?)?;
+            with_title(alloc, tag, attrs, children.into_list(), made, own_line)
         }
-        Node::Text(text) => made.push(Node::Text(text))?,
+        Node::Text(text) => {
+            made.push(Node::Text(text))?;
+            Ok(made)
+        }
     }
-    Ok(made)
 }

@@ -1,14 +1,39 @@
-//! What can be wrong with the content of a table that is made of lists.
-ghost use Rattle.std.specs.Prelude.{◌≡◌, ◌++◌, decimal, string_bytes, IfOk};
-ghost use Rattle.rst_block_nodes.specs.ListTables.{lists_text, table_fault_text};
+//! What can be wrong with the content of a directive that makes a table.
+ghost use Rattle.std.specs.Prelude.{◌≡◌, ◌++◌, decimal, option_map, string_bytes, IfOk};
+ghost use Rattle.rst_markup_directives.specs.Widths.{columns_in};
+ghost use Rattle.rst_block_nodes.specs.TableFaults as spec;
 
 use itoa::Buffer;
+use rst_markup_directives::Widths;
 use rst_tree::Result;
 use std::alloc::Global;
 
-/// What is wrong with the content of a table that is made of lists (Docutils, Directives, 'List Table').
+/// A directive that makes a table.
+#[derive(Clone, Copy, Debug, PartialEq, Eq)]
+pub enum TableDirective {
+    /// Of a table.
+    Table,
+    /// Of lists.
+    ListTable,
+}
+
+impl TableDirective {
+    /// Its name.
+    fn name(self) -> &'static str
+        ensures { result.now ≡ spec.directive_name self }
+    {
+        match self {
+            TableDirective::Table => "table",
+            TableDirective::ListTable => "list-table",
+        }
+    }
+}
+
+/// What is wrong with the content of such a directive (Docutils, Directives, 'Table', 'List Table').
 #[derive(Clone, Copy, Debug, PartialEq, Eq)]
 pub enum TableFault {
+    /// It is something else than one table.
+    NotOneTable,
     /// It is something else than one bullet list.
     NotOneList,
     /// A row, counted from 1, holds something else than one bullet list.
@@ -20,7 +45,10 @@ pub enum TableFault {
         columns: usize,
     },
     /// There are other widths than columns.
-    OtherWidths(usize),
+    OtherWidths {
+        directive: TableDirective,
+        columns: u64,
+    },
     /// There are fewer rows than the head should have.
     FewRows {
         heads: u64,
@@ -41,9 +69,14 @@ pub enum TableFault {
 ///
 /// The only refusal is [`AllocError`].
 pub fn table_fault_text(alloc: Global, fault: TableFault) -> Result<String>
-    ensures { IfOk result (λ text. string_bytes text ≡ table_fault_text fault) }
+    ensures { IfOk result (λ text. string_bytes text ≡ spec.table_fault_text fault) }
 {
     match fault {
+        TableFault::NotOneTable => {
+            let text =
+                "Error parsing content block for the \"table\" directive: exactly one table expected.";
+            Ok(String::from_str(alloc, text)?)
+        }
         TableFault::NotOneList => lists_text(alloc, "exactly one bullet list expected."),
         TableFault::NoInnerList(row) => {
             let what = format!(in alloc;
@@ -64,9 +97,12 @@ pub fn table_fault_text(alloc: Global, fault: TableFault) -> Result<String>
             push_count(&mut what, columns as u64, ").")?;
             lists_text(alloc, what.as_str())
         }
-        TableFault::OtherWidths(columns) => format!(in alloc;
-            "\"list-table\" widths do not match the number of columns in table ({columns})."
-        ),
+        TableFault::OtherWidths { directive, columns } => {
+            let name = directive.name();
+            format!(in alloc;
+                "\"{name}\" widths do not match the number of columns in table ({columns})."
+            )
+        }
         TableFault::FewRows { heads, rows } => {
             let mut text = String::new(alloc);
             push_count(&mut text, heads, " header row(s) specified but only ")?;
@@ -92,9 +128,25 @@ pub fn table_fault_text(alloc: Global, fault: TableFault) -> Result<String>
 
 /// The text of the message on lists that are wrong.
 fn lists_text(alloc: Global, what: &str) -> Result<String>
-    ensures { IfOk result (λ text. string_bytes text ≡ lists_text what.now) }
+    ensures { IfOk result (λ text. string_bytes text ≡ spec.lists_text what.now) }
 {
     format!(in alloc; "Error parsing content block for the \"list-table\" directive: {what}")
+}
+
+/// Whether widths that a directive gives are another number than that of the columns.
+pub(crate) fn widths_fault(
+    directive: TableDirective,
+    columns: u64,
+    widths: &Option<Widths>,
+) -> Option<TableFault>
+    ensures { result ≡ spec.widths_fault directive columns (option_map columns_in widths.now) }
+{
+    match widths {
+        Some(Widths::Given(widths)) if widths.len() as u64 != columns => {
+            Some(TableFault::OtherWidths { directive, columns })
+        }
+        _ => None,
+    }
 }
 
 /// Puts a number and more text after a text.

@@ -1,13 +1,13 @@
 //! What the options of a table ask for beside its attributes.
 ghost use Rattle.std.specs.Prelude.{◌≡◌, IfOk};
 ghost use Rattle.rst_markup_directives.specs.Options.{choices_in};
-ghost use Rattle.rst_block_nodes.specs.ListTables as spec;
+ghost use Rattle.rst_block_nodes.specs.TableRequests as spec;
 
 use rst_markup_directives::{OptionName, OptionValue, Setting, Widths};
 use rst_tree::Result;
 use std::alloc::Global;
 
-/// What the options of a table ask for beside its attributes.
+/// What the options of a table ask for beside its attributes: those of the directive `table` the widths alone.
 #[derive(Debug, Drop)]
 pub struct TableOptions {
     /// How many of its rows are its head.

@@ -1,6 +1,6 @@
 -- Directives, and substitution definitions, which hold directives (Markup Specification, 'Directives', 'Substitution Definitions'; Directives,
 -- 'Admonitions', 'Images', 'Topic', 'Sidebar', 'Epigraph', 'Highlights', 'Pull-Quote', 'Code', 'Rubric', 'Parsed Literal Block', 'Line Block', 'Math',
--- 'Raw Data Pass-Through', 'Compound Paragraph', 'Container', 'Table of Contents', 'List Table', 'Class', 'Replacement Text').
+-- 'Raw Data Pass-Through', 'Compound Paragraph', 'Container', 'Table of Contents', 'Table', 'List Table', 'Class', 'Replacement Text').
 use Rattle.std.specs.Prelude.{ℕ, Bool, true, false, List, [], ◌∷◌, ◌++◌, map, drop, codes, Option, Some, None, encode_utf8_all, if◌then◌else◌}
 use Rattle.rst_settings.specs.Parts.{hands_directive}
 use Rattle.rst_settings.specs.declared.Parts.{Parts}
@@ -26,20 +26,22 @@ use Rattle.rst_markup_directives.specs.declared.found.Content.{Content}
 use Rattle.rst_markup_directives.specs.declared.found.Place.{Place}
 use Rattle.rst_markup_directives.specs.declared.found.Place.TheVariants.{Top, Body, Substitution}
 use Rattle.rst_markup_directives.specs.declared.kind.ContentKind.{ContentKind}
-use Rattle.rst_markup_directives.specs.declared.kind.ContentKind.TheVariants.{Marked, Verse, Formulas, Classed, Quotes, Entries, Rows}
+use Rattle.rst_markup_directives.specs.declared.kind.ContentKind.TheVariants.{Marked, Verse, Formulas, Classed, Quotes, Entries, Rows, OneTable}
 use Rattle.rst_markup_directives.specs.declared.kind.QuoteClass.{QuoteClass}
+use Rattle.rst_block_nodes.specs.declared.table_faults.TableDirective.{TableDirective}
+use Rattle.rst_block_nodes.specs.declared.table_faults.TableDirective.TheVariants.{Table, ListTable}
 use Rattle.rst_block_nodes.specs.Admonitions.{with_title_class}
 use Rattle.rst_block_nodes.specs.Elements.{substitution_definition_node, text_nodes}
 use Rattle.rst_block_nodes.specs.Formulas.{formulas}
 use Rattle.rst_block_nodes.specs.TableOfContents.{table_of_contents}
 use Rattle.rst_block_nodes.specs.Targets.{may_replace}
 use Rattle.rst_block_nodes.specs.Values.{normalized, unescaped}
-use Rattle.rst_block_nodes.specs.ListTables.{asked_of}
+use Rattle.rst_block_nodes.specs.TableRequests.{asked_of}
 use Rattle.rst_block_nodes.specs.Sections.{filled}
 use Rattle.rst_block_nodes.specs.Options.{directive_element, figure_element, handed_directive_node, image_element, literal_element, subtitle_chosen, with_options}
 use Rattle.rst_block_nodes.specs.Readings.{subtitled}
 use Rattle.rst_block_state.specs.Figures.{caption_error, figure_nodes}
-use Rattle.rst_block_state.specs.ListTables.{list_table_nodes}
+use Rattle.rst_block_state.specs.TableDirectives.{directive_table_nodes}
 use Rattle.rst_block_state.specs.LineRuns.{line_block, number_or, verse_lines}
 use Rattle.rst_block_state.specs.Numbered.{Numbered, ◌>>=◌, just}
 use Rattle.rst_block_state.specs.Paragraphs.{is_single_paragraph}
@@ -86,11 +88,21 @@ titled_start line read lines = do
   more ← subtitled (first_parts lines) (subtitle_chosen read.options) line
   just (filled (titled_element read.kind.element (directive_element read.kind.element read.argument read.options line) made.0) (made.0 ∷ more.0 ++ made.1 ++ more.1))
 
--- The element of a directive, which may begin with its title, with the nodes of its content after that; or the table that these make. An ERROR on
--- this shows these lines.
+-- the directive that makes a table of such a content, if one does
+abbrev pub table_directive : ContentKind → Option TableDirective
+table_directive OneTable = Some Table
+table_directive Rows = Some ListTable
+table_directive _ = None
+
+-- The element of a directive, which may begin with its title, with the nodes of its content after that; or the table that this directive makes of
+-- them. An ERROR on this shows these lines.
+abbrev pub completed_by : Option TableDirective → List OptionSetting → Node → ℕ → List ℕ → List Node → List Node
+completed_by (Some directive) options element line lines nodes = directive_table_nodes directive line lines element (asked_of options) nodes
+completed_by None options element line lines nodes = filled element nodes ∷ []
+
+-- the same by what the content is
 abbrev pub completed : ContentKind → List OptionSetting → Node → ℕ → List ℕ → List Node → List Node
-completed Rows options element line lines nodes = list_table_nodes line lines element (asked_of options) nodes
-completed _ options element line lines nodes = filled element nodes ∷ []
+completed content options element line lines nodes = completed_by (table_directive content) options element line lines nodes
 
 -- a directive with a title, and its content
 abbrev pub titled_nodes : Within → Block → ℕ → Read → Block → List ℕ → Numbered (List Node)

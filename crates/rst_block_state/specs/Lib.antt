@@ -11,7 +11,7 @@ pub mod LineRuns
 pub mod Literals
 pub mod Tables
 pub mod Figures
-pub mod ListTables
+pub mod TableDirectives
 pub mod Directives
 pub mod Markup
 pub mod Titles

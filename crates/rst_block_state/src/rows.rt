@@ -11,3 +11,4 @@ pub mod lists;
 pub mod sections;
 pub mod tables;
 pub mod texts;
+pub mod titled_tables;

@@ -1,6 +1,6 @@
 //! What a block waits for while one inside it is read.
 
-use rst_block_nodes::{TableOptions, Texted};
+use rst_block_nodes::{TableDirective, TableOptions, Texted};
 use rst_markup_blocks::Part;
 use rst_markup_directives::QuoteClass;
 use rst_tree::{Node, Tag};
@@ -40,15 +40,16 @@ pub enum Waits {
         start: usize,
         end: usize,
     },
-    /// They are the rows of a table, as lists.
-    Rows(Box<OpenTable>),
+    /// A directive makes a table of them.
+    Table(Box<OpenTable>),
     /// They are the content of a substitution definition.
     Replacement(Box<OpenReplacement>),
 }
 
-/// A table whose rows are read as lists. Its lines are those from place `start` up to place `end`.
+/// A table that a directive makes of its content, which is read. Its lines are those from place `start` up to place `end`.
 #[derive(Drop)]
 pub struct OpenTable {
+    pub directive: TableDirective,
     /// It begins with its title and the messages on this, or with nothing.
     pub table: Node,
     pub asked: TableOptions,

@@ -6,13 +6,13 @@ use Rattle.rst_markup_directives.specs.Argument.{ArgumentMeaning, title}
 use Rattle.rst_markup_directives.specs.Options.{OptionSetting}
 use Rattle.rst_markup_directives.specs.declared.fault.Detail.TheVariants.{ContentNotPermitted, NotOneParagraph}
 use Rattle.rst_markup_directives.specs.declared.fault.DirectiveFault.{DirectiveFault}
-use Rattle.rst_markup_directives.specs.declared.fault.DirectiveFault.TheVariants.{NotInSubstitution, Unknown, Inside, NoContent, NoRows, TopicNotHere, SidebarNotHere, LoneSubtitle, ReplaceNotHere, Disabled}
+use Rattle.rst_markup_directives.specs.declared.fault.DirectiveFault.TheVariants.{NotInSubstitution, Unknown, Inside, NoContent, NoRows, NoTable, TopicNotHere, SidebarNotHere, LoneSubtitle, ReplaceNotHere, Disabled}
 use Rattle.rst_markup_directives.specs.declared.found.Place.{Place}
 use Rattle.rst_markup_directives.specs.declared.found.Place.TheVariants.{Top, Substitution}
 use Rattle.rst_markup_directives.specs.declared.kind.Allowed.{Allowed}
 use Rattle.rst_markup_directives.specs.declared.kind.Allowed.TheVariants.{Sections, Beside, Substitution as SubstitutionAlone, Anywhere, Nowhere}
 use Rattle.rst_markup_directives.specs.declared.kind.ContentKind.{ContentKind}
-use Rattle.rst_markup_directives.specs.declared.kind.ContentKind.TheVariants.{Empty, Paragraph, Caption, Classed, Entries, Rows}
+use Rattle.rst_markup_directives.specs.declared.kind.ContentKind.TheVariants.{Empty, Paragraph, Caption, Classed, Entries, Rows, OneTable}
 use Rattle.rst_markup_directives.specs.declared.kind.Kind.{Kind}
 use Rattle.rst_markup_directives.specs.declared.option.OptionName.{OptionName}
 use Rattle.rst_markup_directives.specs.declared.option.OptionName.TheVariants.{File, Subtitle, Url}
@@ -57,6 +57,7 @@ fault_by Empty empty paragraph = if empty then None else Some (Inside ContentNot
 fault_by Entries empty paragraph = if empty then None else Some (Inside ContentNotPermitted)
 fault_by Paragraph empty paragraph = if empty then Some NoContent else if paragraph then None else Some (Inside NotOneParagraph)
 fault_by Rows empty paragraph = if empty then Some NoRows else None
+fault_by OneTable empty paragraph = if empty then Some NoTable else None
 fault_by _ empty paragraph = if empty then Some NoContent else None
 
 -- the argument is a title

@@ -1,6 +1,6 @@
 -- The directives: their names, what they take, where they are allowed, and which part of the profile has them (Directives, 'Specific
 -- Admonitions', 'Generic Admonition', 'Topic', 'Rubric', 'Image', 'Figure', 'Code', 'Parsed Literal Block', 'Raw Data Pass-Through', 'Including an
--- External Document Fragment', 'Compound Paragraph', 'Container', 'Class', 'Line Block', 'Math', 'Table of Contents', 'List Table', 'Replacement Text', 'Common
+-- External Document Fragment', 'Compound Paragraph', 'Container', 'Class', 'Line Block', 'Math', 'Table of Contents', 'Table', 'List Table', 'Replacement Text', 'Common
 -- Options'; Markup Specification, 'Substitution Definitions').
 use Prim.Native.String.{String}
 use Rattle.std.specs.Prelude.{ℕ, Bool, true, false, not, ◌&&◌, List, [], ◌∷◌, codes, Option, Some, None, option_and_then, if◌then◌else◌}
@@ -16,10 +16,10 @@ use Rattle.rst_markup_directives.specs.declared.kind.Allowed.TheVariants.{Body, 
 use Rattle.rst_markup_directives.specs.declared.kind.ArgumentKind.{ArgumentKind}
 use Rattle.rst_markup_directives.specs.declared.kind.ArgumentKind.TheVariants.{Absent, Title, OptionalTitle, Uri, Language, Formats, Classes, OptionalClasses}
 use Rattle.rst_markup_directives.specs.declared.kind.ContentKind.{ContentKind}
-use Rattle.rst_markup_directives.specs.declared.kind.ContentKind.TheVariants.{Empty as NoContent, Lines, Marked, Verse, Formulas, Blocks, Paragraph, Caption, Classed, Quotes, Entries, Rows}
+use Rattle.rst_markup_directives.specs.declared.kind.ContentKind.TheVariants.{Empty as NoContent, Lines, Marked, Verse, Formulas, Blocks, Paragraph, Caption, Classed, Quotes, Entries, Rows, OneTable}
 use Rattle.rst_markup_directives.specs.declared.kind.Kind.{Kind}
 use Rattle.rst_markup_directives.specs.declared.kind.OptionSet.{OptionSet}
-use Rattle.rst_markup_directives.specs.declared.kind.OptionSet.TheVariants.{Empty as NoOptions, Common, NameAlone, Sidebar as SidebarOptions, Raw as RawOptions, Include, Image, Figure, Contents, ListTable}
+use Rattle.rst_markup_directives.specs.declared.kind.OptionSet.TheVariants.{Empty as NoOptions, Common, NameAlone, Sidebar as SidebarOptions, Raw as RawOptions, Include, Image, Figure, Contents, Table, ListTable}
 use Rattle.rst_markup_directives.specs.declared.kind.PartName.{PartName}
 use Rattle.rst_markup_directives.specs.declared.kind.QuoteClass.{QuoteClass}
 use Rattle.rst_markup_directives.specs.declared.kind.QuoteClass.TheVariants.{Epigraph, Highlights, PullQuote}
@@ -74,6 +74,7 @@ directives =
     ∷ row "line-block" Wider tag.LineBlock Absent Common Verse Body
     ∷ row "math" Wider tag.MathBlock Absent Common Formulas Body
     ∷ row "contents" Wider tag.Topic OptionalTitle Contents Entries Beside
+    ∷ row "table" Wider tag.Table OptionalTitle Table OneTable Body
     ∷ row "list-table" Wider tag.Table OptionalTitle ListTable Rows Body
     ∷ []
 
@@ -123,7 +124,7 @@ is_of_contents Local = true
 is_of_contents Backlinks = true
 is_of_contents _ = false
 
--- the option is one of a table made of lists alone
+-- the option is one of a table alone
 abbrev pub is_of_tables : OptionName → Bool
 is_of_tables HeaderRows = true
 is_of_tables StubColumns = true
@@ -131,7 +132,7 @@ is_of_tables Widths = true
 is_of_tables _ = false
 
 -- none, `class` and `name`, `name` alone, those of a sidebar, those of raw data, those of a file's inclusion, those of a table of contents, those of a
--- table made of lists, those of an image, or these and those of a figure
+-- table, those of a table made of lists, those of an image, or these and those of a figure
 abbrev pub has_option : OptionSet → OptionName → Bool
 has_option NoOptions option = false
 has_option Common Class = true
@@ -151,6 +152,12 @@ has_option Include Inclusion = true
 has_option Include _ = false
 has_option Contents Class = true
 has_option Contents option = is_of_contents option
+has_option Table Class = true
+has_option Table Name = true
+has_option Table Width = true
+has_option Table Align = true
+has_option Table Widths = true
+has_option Table _ = false
 has_option ListTable Class = true
 has_option ListTable Name = true
 has_option ListTable Width = true
@@ -167,8 +174,14 @@ has_option _ option = not (is_of_contents option) && not (is_of_tables option)
 -- a figure may not be aligned vertically, nor a table
 abbrev pub has_vertical : OptionSet → Bool
 has_vertical Figure = false
+has_vertical Table = false
 has_vertical ListTable = false
 has_vertical _ = true
+
+-- a table may keep the widths that are drawn; one made of lists has none
+abbrev pub has_drawn : OptionSet → Bool
+has_drawn Table = true
+has_drawn _ = false
 
 -- ---- content
 
@@ -204,4 +217,5 @@ has_blocks Paragraph = true
 has_blocks Caption = true
 has_blocks Classed = true
 has_blocks Rows = true
+has_blocks OneTable = true
 has_blocks _ = false

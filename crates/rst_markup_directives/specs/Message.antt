@@ -2,7 +2,7 @@
 use Rattle.std.specs.Prelude.{ℕ, List, ◌++◌, codes, encode_utf8_all}
 use Rattle.rst_tree.specs.declared.note.Level.{Level}
 use Rattle.rst_tree.specs.declared.note.Level.TheVariants.{Warning, Error}
-use Rattle.rst_markup_directives.specs.Wrong.{Wrong, option_block, unknown, duplicate, invalid, no_argument, many_arguments, content_not_permitted, not_one_paragraph, Fault, not_in_substitution, unknown_directive, inside, no_content, no_rows, topic_not_here, sidebar_not_here, lone_subtitle, replace_not_here, disabled, invalid_classes}
+use Rattle.rst_markup_directives.specs.Wrong.{Wrong, option_block, unknown, duplicate, invalid, no_argument, many_arguments, content_not_permitted, not_one_paragraph, Fault, not_in_substitution, unknown_directive, inside, no_content, no_rows, no_table, topic_not_here, sidebar_not_here, lone_subtitle, replace_not_here, disabled, invalid_classes}
 
 -- the second line of the message on a directive in which something is wrong
 abbrev pub wrong_text : Wrong → List ℕ
@@ -15,6 +15,10 @@ wrong_text many_arguments = codes "at most 1 argument permitted."
 wrong_text content_not_permitted = codes "no content permitted."
 wrong_text not_one_paragraph = codes "may contain a single paragraph only."
 
+-- the text of the message on a content that is missing
+abbrev pub missing_text : List ℕ → List ℕ
+missing_text name = codes "Content block expected for the \"" ++ name ++ codes "\" directive; none found."
+
 -- the text of the message on class names of which one is wrong
 abbrev pub classes_text : List ℕ → List ℕ → List ℕ
 classes_text classes name = codes "Invalid class attribute value for \"" ++ (name ++ (codes "\" directive: \"" ++ (classes ++ codes "\".")))
@@ -24,7 +28,8 @@ abbrev pub fault_text : Fault → List ℕ → List ℕ
 fault_text not_in_substitution name = codes "Substitution definition \"" ++ name ++ codes "\" may hold only image or replace."
 fault_text unknown_directive name = codes "Unknown directive type \"" ++ name ++ codes "\"."
 fault_text (inside wrong) name = codes "Error in \"" ++ name ++ codes "\" directive:\n" ++ wrong_text wrong
-fault_text no_content name = codes "Content block expected for the \"" ++ name ++ codes "\" directive; none found."
+fault_text no_content name = missing_text name
+fault_text no_table name = missing_text name
 fault_text no_rows name = codes "The \"" ++ name ++ codes "\" directive is empty; content required."
 fault_text topic_not_here name = codes "The \"topic\" directive may not be used within topics or body elements."
 fault_text sidebar_not_here name = codes "The \"" ++ name ++ codes "\" directive may not be used within topics or body elements."
@@ -36,4 +41,5 @@ fault_text (invalid_classes text) name = classes_text (encode_utf8_all text) nam
 -- the level of that message
 abbrev pub fault_level : Fault → Level
 fault_level disabled = Warning
+fault_level no_table = Warning
 fault_level _ = Error

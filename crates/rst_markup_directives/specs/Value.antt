@@ -1,4 +1,4 @@
--- What the values of options mean (Directives, 'Common Options', 'Image', 'Figure', 'Table of Contents', 'List Table').
+-- What the values of options mean (Directives, 'Common Options', 'Image', 'Figure', 'Table of Contents', 'Table', 'List Table').
 use Rattle.std.specs.Prelude.{ℕ, true, false, List, [], ◌∷◌, map, Option, Some, None, option_map, if◌then◌else◌}
 use Rattle.std.specs.List.{list_any}
 use Rattle.std.specs.declared.string.String.{String}
@@ -8,7 +8,7 @@ use Rattle.rst_text.specs.Text.{chars_of}
 use Rattle.rst_markup_directives.specs.Characters.{Text}
 use Rattle.rst_markup_directives.specs.Contents.{backlinks_of, depth_of}
 use Rattle.rst_markup_directives.specs.Measure.{measure_of, scale_of, alignment_of}
-use Rattle.rst_markup_directives.specs.Kind.{has_vertical}
+use Rattle.rst_markup_directives.specs.Kind.{has_drawn, has_vertical}
 use Rattle.rst_markup_directives.specs.Widths.{Columns, columns_of, columns_in}
 use Rattle.rst_markup_directives.specs.Target.{Destination, destination_of, target_value}
 use Rattle.rst_markup_directives.specs.declared.contents.Backlinks.{Backlinks}
@@ -73,7 +73,7 @@ option_meaning options Local t = option_map numbered (one_if_empty t)
 option_meaning options BacklinksOption t = option_map led_back (backlinks_of t)
 option_meaning options HeaderRows t = option_map numbered (depth_of t)
 option_meaning options StubColumns t = option_map numbered (depth_of t)
-option_meaning options WidthsOption t = option_map sized (columns_of t)
+option_meaning options WidthsOption t = option_map sized (columns_of (has_drawn options) t)
 
 -- ---- as they are kept
 

@@ -5,7 +5,7 @@ use Rattle.rst_markup_directives.specs.Characters.{Text}
 use Rattle.rst_markup_directives.specs.declared.fault.Detail.{Detail}
 use Rattle.rst_markup_directives.specs.declared.fault.Detail.TheVariants.{InvalidOptionBlock, UnknownOption, DuplicateOption, InvalidValue, NoArgument, ManyArguments, ContentNotPermitted, NotOneParagraph}
 use Rattle.rst_markup_directives.specs.declared.fault.DirectiveFault.{DirectiveFault}
-use Rattle.rst_markup_directives.specs.declared.fault.DirectiveFault.TheVariants.{NotInSubstitution, Unknown, Inside, NoContent, TopicNotHere, SidebarNotHere, LoneSubtitle, ReplaceNotHere, Disabled, InvalidClasses, NoRows}
+use Rattle.rst_markup_directives.specs.declared.fault.DirectiveFault.TheVariants.{NotInSubstitution, Unknown, Inside, NoContent, TopicNotHere, SidebarNotHere, LoneSubtitle, ReplaceNotHere, Disabled, InvalidClasses, NoRows, NoTable}
 
 -- what is wrong inside a directive; an option's name is given as it is written
 pub data Wrong : Type 0 where
@@ -35,6 +35,7 @@ pub data Fault : Type 0 where
   inside : Wrong → Fault
   no_content : Fault
   no_rows : Fault
+  no_table : Fault
   topic_not_here : Fault
   sidebar_not_here : Fault
   lone_subtitle : Fault
@@ -62,6 +63,7 @@ fault_in Unknown = unknown_directive
 fault_in (Inside detail) = inside (wrong_in detail)
 fault_in NoContent = no_content
 fault_in NoRows = no_rows
+fault_in NoTable = no_table
 fault_in TopicNotHere = topic_not_here
 fault_in SidebarNotHere = sidebar_not_here
 fault_in LoneSubtitle = lone_subtitle

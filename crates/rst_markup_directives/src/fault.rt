@@ -13,6 +13,8 @@ pub enum DirectiveFault {
     NoContent,
     /// The lists that a table is made of are missing.
     NoRows,
+    /// The table that gets a title and options is missing.
+    NoTable,
     /// A topic in a body element or in a topic.
     TopicNotHere,
     /// A sidebar or a table of contents there.

@@ -66,6 +66,7 @@ pub(crate) fn content_fault(
             true,
         ) => Some(DirectiveFault::NoContent),
         (ContentKind::Rows, true) => Some(DirectiveFault::NoRows),
+        (ContentKind::OneTable, true) => Some(DirectiveFault::NoTable),
         (ContentKind::Paragraph, false) if !paragraph => {
             Some(DirectiveFault::Inside(Detail::NotOneParagraph))
         }

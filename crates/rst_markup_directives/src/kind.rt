@@ -54,7 +54,9 @@ pub enum OptionSet {
     Include,
     /// `class`, and those of a table of contents alone.
     Contents,
-    /// `class`, `name`, `width`, `align`, and those of a table made of lists alone.
+    /// `class`, `name`, `width`, `align`, and `widths`.
+    Table,
+    /// Those of a table, and those of a table made of lists alone.
     ListTable,
     /// Those of an image.
     Image,
@@ -88,6 +90,8 @@ pub enum ContentKind {
     Classed,
     /// A list of the rows of a table, each a list of its cells.
     Rows,
+    /// One table.
+    OneTable,
 }
 
 /// The class of block quotes that a directive makes.
@@ -148,7 +152,7 @@ macro_rules! row {
 }
 
 /// The directives by their names.
-const DIRECTIVES: [(&str, (PartName, Kind)); 32] = [
+const DIRECTIVES: [(&str, (PartName, Kind)); 33] = [
     row!("code" in Code: LiteralBlock, Language, Common, Lines, Body),
     row!("code-block" in Code: LiteralBlock, Language, Common, Lines, Body),
     row!("sourcecode" in Code: LiteralBlock, Language, Common, Lines, Body),
@@ -180,6 +184,7 @@ const DIRECTIVES: [(&str, (PartName, Kind)); 32] = [
     row!("line-block" in Wider: LineBlock, Absent, Common, Verse, Body),
     row!("math" in Wider: MathBlock, Absent, Common, Formulas, Body),
     row!("contents" in Wider: Topic, OptionalTitle, Contents, Entries, Beside),
+    row!("table" in Wider: Table, OptionalTitle, Table, OneTable, Body),
     row!("list-table" in Wider: Table, OptionalTitle, ListTable, Rows, Body),
 ];
 
@@ -236,6 +241,7 @@ impl ContentKind {
                 | ContentKind::Caption
                 | ContentKind::Classed
                 | ContentKind::Rows
+                | ContentKind::OneTable
         )
     }
 
@@ -275,6 +281,23 @@ impl QuoteClass {
 }
 
 impl OptionSet {
+    /// Whether `align` may be vertical. Those of a figure or a table may not.
+    pub(crate) fn has_vertical(self) -> bool
+        ensures { result ≡ spec.has_vertical self }
+    {
+        !matches!(
+            self,
+            OptionSet::Figure | OptionSet::Table | OptionSet::ListTable
+        )
+    }
+
+    /// Whether `widths` may be those that are drawn.
+    pub(crate) fn has_drawn(self) -> bool
+        ensures { result ≡ spec.has_drawn self }
+    {
+        self == OptionSet::Table
+    }
+
     /// Whether an option is among these.
     pub(crate) fn has(self, option: OptionName) -> bool
         ensures { result ≡ spec.has_option self option }
@@ -293,12 +316,14 @@ impl OptionSet {
                 OptionName::Class | OptionName::Name | OptionName::Inclusion
             ),
             OptionSet::Contents => option == OptionName::Class || option.is_of_contents(),
-            OptionSet::ListTable => {
-                matches!(
-                    option,
-                    OptionName::Class | OptionName::Name | OptionName::Width | OptionName::Align
-                ) || option.is_of_tables()
-            }
+            OptionSet::Table | OptionSet::ListTable => match option {
+                OptionName::Class
+                | OptionName::Name
+                | OptionName::Width
+                | OptionName::Align
+                | OptionName::Widths => true,
+                _ => self == OptionSet::ListTable && option.is_of_tables(),
+            },
             OptionSet::Image | OptionSet::Figure => match option {
                 OptionName::Subtitle | OptionName::File | OptionName::Url | OptionName::Inclusion =>
                     { false }

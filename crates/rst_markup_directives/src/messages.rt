@@ -26,7 +26,7 @@ pub fn message(alloc: Global, fault: &DirectiveFault, name: &str) -> Result<Stri
             text.push_str(detail.as_str())?;
             Ok(text)
         }
-        DirectiveFault::NoContent => Ok(format!(in alloc;
+        DirectiveFault::NoContent | DirectiveFault::NoTable => Ok(format!(in alloc;
             "Content block expected for the \"{name}\" directive; none found."
         )?),
         DirectiveFault::NoRows => Ok(format!(in alloc;
@@ -64,7 +64,7 @@ pub fn level_of(fault: &DirectiveFault) -> Level
     ensures { result ≡ spec.fault_level (fault_in fault.now) }
 {
     match fault {
-        DirectiveFault::Disabled => Level::Warning,
+        DirectiveFault::Disabled | DirectiveFault::NoTable => Level::Warning,
         _ => Level::Error,
     }
 }

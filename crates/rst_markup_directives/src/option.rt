@@ -80,7 +80,7 @@ impl OptionName {
         )
     }
 
-    /// Whether it is one of a table made of lists alone.
+    /// Whether it is one of a table alone.
     pub(crate) fn is_of_tables(self) -> bool
         ensures { result ≡ is_of_tables self }
     {

@@ -17,19 +17,19 @@ ghost use Rattle.rst_markup_directives.specs.OptionName.{option_named};
 ghost use Rattle.rst_markup_directives.specs.Options.{fields_in};
 ghost use Rattle.rst_markup_directives.specs.Target.{located, named, target_value};
 ghost use Rattle.rst_markup_directives.specs.Value.{called, classed, ids_of, led_back, linked, measured, numbered, placed, plain, sized, option_meaning};
-ghost use Rattle.rst_markup_directives.specs.Widths.{auto, columns_class, given};
-ghost use Rattle.rst_markup_directives.specs.Wrong.{disabled, duplicate, inside, invalid, invalid_classes, lone_subtitle, many_arguments, no_argument, no_content, no_rows, not_in_substitution, option_block, replace_not_here, sidebar_not_here, topic_not_here, unknown, unknown_directive};
+ghost use Rattle.rst_markup_directives.specs.Widths.{auto, columns_class, drawn, given};
+ghost use Rattle.rst_markup_directives.specs.Wrong.{disabled, duplicate, inside, invalid, invalid_classes, lone_subtitle, many_arguments, no_argument, no_content, no_rows, no_table, not_in_substitution, option_block, replace_not_here, sidebar_not_here, topic_not_here, unknown, unknown_directive};
 ghost use Rattle.rst_markup_directives.specs.Wrong as faults;
 ghost use Rattle.rst_markup_directives.specs.declared.contents.Backlinks.TheVariants as back;
 ghost use Rattle.rst_markup_directives.specs.declared.fault.Detail.TheVariants.{ContentNotPermitted, NotOneParagraph};
-ghost use Rattle.rst_markup_directives.specs.declared.fault.DirectiveFault.TheVariants.{Disabled, Inside, LoneSubtitle, NoContent, NoRows, NotInSubstitution, ReplaceNotHere, SidebarNotHere, TopicNotHere, Unknown};
+ghost use Rattle.rst_markup_directives.specs.declared.fault.DirectiveFault.TheVariants.{Disabled, Inside, LoneSubtitle, NoContent, NoRows, NoTable, NotInSubstitution, ReplaceNotHere, SidebarNotHere, TopicNotHere, Unknown};
 ghost use Rattle.rst_markup_directives.specs.declared.found.Place.TheVariants.{Body, Substitution, Top as Sections};
 ghost use Rattle.rst_markup_directives.specs.declared.measure.Alignment.TheVariants.{Bottom, Center, Left, Middle, Right, Top};
 ghost use Rattle.rst_markup_directives.specs.declared.kind.Allowed.TheVariants as allowed;
 ghost use Rattle.rst_markup_directives.specs.declared.kind.ArgumentKind.TheVariants.{Absent, Classes, Formats, OptionalClasses, Language, OptionalTitle, Title, Uri};
-ghost use Rattle.rst_markup_directives.specs.declared.kind.ContentKind.TheVariants.{Blocks, Caption, Classed, Empty, Entries, Lines, Marked, Paragraph, Formulas, Verse, Quotes, Rows};
+ghost use Rattle.rst_markup_directives.specs.declared.kind.ContentKind.TheVariants.{Blocks, Caption, Classed, Empty, Entries, Lines, Marked, Paragraph, Formulas, Verse, Quotes, Rows, OneTable};
 ghost use Rattle.rst_markup_directives.specs.declared.kind.QuoteClass.TheVariants.{Epigraph, Highlights, PullQuote};
-ghost use Rattle.rst_markup_directives.specs.declared.kind.OptionSet.TheVariants.{Common, Contents, Empty as NoOptions, Figure, Image, Include, ListTable, NameAlone, Raw as RawOptions, Sidebar as SidebarOptions};
+ghost use Rattle.rst_markup_directives.specs.declared.kind.OptionSet.TheVariants.{Common, Contents, Empty as NoOptions, Figure, Image, Include, ListTable, NameAlone, Raw as RawOptions, Sidebar as SidebarOptions, Table as TableOptions};
 ghost use Rattle.rst_markup_directives.specs.declared.option.OptionName.TheVariants.{Align, Alt, Backlinks, Class, Depth, FigureClass, FigureWidth, File, HeaderRows, Height, Inclusion, Local, Name as NameOption, Scale, StubColumns, Subtitle, Target, Url, Width, Widths};
 
 /// Which directive a name is of (Markup Specification, 'Directives').
@@ -56,6 +56,7 @@ pub fn names()
         ∷ Some (kind tag.LineBlock Absent Common Verse allowed.Body) ∷ Some (kind tag.MathBlock Absent Common Formulas allowed.Body) ∷ [] }
     ensures sidebar { directive_named all_parts (codes "Sidebar") false ≡ Some (kind tag.Sidebar OptionalTitle SidebarOptions Blocks allowed.Beside) }
     ensures contents { directive_named all_parts (codes "Contents") false ≡ Some (kind tag.Topic OptionalTitle Contents Entries allowed.Beside) }
+    ensures table { directive_named all_parts (codes "TABLE") false ≡ Some (kind tag.Table OptionalTitle TableOptions OneTable allowed.Body) }
     ensures list_table { directive_named all_parts (codes "List-Table") false ≡ Some (kind tag.Table OptionalTitle ListTable Rows allowed.Body) }
     ensures quotes { map (λ t. directive_named all_parts (codes t) false) ("epigraph" ∷ "highlights" ∷ "Pull-Quote" ∷ "pullquote" ∷ [])
         ≡ Some (kind tag.BlockQuote Absent NoOptions (Quotes Epigraph) allowed.Body) ∷ Some (kind tag.BlockQuote Absent NoOptions (Quotes Highlights) allowed.Body)
@@ -63,7 +64,7 @@ pub fn names()
     ensures quote_classes { map (λ class. quote_class class) (Epigraph ∷ Highlights ∷ PullQuote ∷ []) ≡ codes "epigraph" ∷ codes "highlights" ∷ codes "pull-quote" ∷ [] }
     ensures without_their_part { filter (λ t. is_some (directive_named (record all_parts { directives = false }) (codes t) true)) ("rubric" ∷ "raw"
         ∷ "parsed-literal" ∷ "include" ∷ "compound" ∷ "container" ∷ "class" ∷ "sidebar" ∷ "epigraph" ∷ "highlights" ∷ "pull-quote" ∷ "line-block" ∷ "math" ∷ "contents"
-        ∷ "list-table" ∷ [])
+        ∷ "table" ∷ "list-table" ∷ [])
         ≡ [] }
     ensures wider { filter (λ t. is_wider_directive (codes t)) ("note" ∷ "code" ∷ "Raw" ∷ "PARSED-literal" ∷ "ra" ∷ "raws" ∷ "Math" ∷ "" ∷ []) ≡ "Raw" ∷ "PARSED-literal" ∷ "Math" ∷ [] }
     ensures left_out { filter (λ t. is_some (directive_named no_parts (codes t) true)) ("raw" ∷ "include" ∷ "table" ∷ "csv-table" ∷ "list-table" ∷ "math"
@@ -87,6 +88,8 @@ pub fn option_names()
         ≡ Class ∷ Depth ∷ Local ∷ Backlinks ∷ [] }
     ensures contents { map (λ t. option_named (codes t)) ("depth" ∷ "Local" ∷ "backlinks" ∷ []) ≡ Some Depth ∷ Some Local ∷ Some Backlinks ∷ [] }
     ensures of_contents_alone { filter (λ o. has_option Figure o) (Depth ∷ Local ∷ Backlinks ∷ []) ≡ [] }
+    ensures of_a_table { filter (λ o. has_option TableOptions o) (Alt ∷ Height ∷ Width ∷ Align ∷ Class ∷ NameOption ∷ Depth ∷ HeaderRows ∷ StubColumns ∷ Widths ∷ [])
+        ≡ Width ∷ Align ∷ Class ∷ NameOption ∷ Widths ∷ [] }
     ensures of_tables { filter (λ o. has_option ListTable o) (Alt ∷ Height ∷ Width ∷ Align ∷ Class ∷ NameOption ∷ Depth ∷ HeaderRows ∷ StubColumns ∷ Widths ∷ [])
         ≡ Width ∷ Align ∷ Class ∷ NameOption ∷ HeaderRows ∷ StubColumns ∷ Widths ∷ [] }
     ensures tables { map (λ t. option_named (codes t)) ("header-rows" ∷ "Stub-Columns" ∷ "widths" ∷ []) ≡ Some HeaderRows ∷ Some StubColumns ∷ Some Widths ∷ [] }
@@ -162,15 +165,20 @@ pub fn values()
     ensures width { map (λ t. option_meaning Figure Width (codes t)) ("50" ∷ "50%" ∷ []) ≡ Some (measured (codes "50")) ∷ Some (measured (codes "50%")) ∷ [] }
     ensures figure_width { map (λ t. option_meaning Figure FigureWidth (codes t)) ("50" ∷ "image" ∷ []) ≡ Some (measured (codes "50px")) ∷ None ∷ [] }
     ensures align { map (λ d. option_meaning d Align (codes "middle")) (Image ∷ Figure ∷ []) ≡ Some (placed Middle) ∷ None ∷ [] }
+    ensures alignment_of_a_table { map (λ t. option_meaning TableOptions Align (codes t)) ("left" ∷ "bottom" ∷ []) ≡ Some (placed Left) ∷ None ∷ [] }
     ensures alignment_of_tables { map (λ t. option_meaning ListTable Align (codes t)) ("right" ∷ "top" ∷ []) ≡ Some (placed Right) ∷ None ∷ [] }
     ensures rows_of_the_head { map (λ t. option_meaning ListTable HeaderRows (codes t)) ("2" ∷ "0" ∷ "-1" ∷ "" ∷ []) ≡ Some (numbered 2) ∷ Some (numbered 0) ∷ None ∷ None ∷ [] }
     ensures stub_columns { map (λ t. option_meaning ListTable StubColumns (codes t)) ("1" ∷ "x" ∷ []) ≡ Some (numbered 1) ∷ None ∷ [] }
     ensures widths { map (λ t. option_meaning ListTable Widths (codes t)) ("1 20" ∷ "3" ∷ "1,2 ,\n 30" ∷ "01  2\n3" ∷ [])
         ≡ Some (sized (given (1 ∷ 20 ∷ []))) ∷ Some (sized (given (3 ∷ []))) ∷ Some (sized (given (1 ∷ 2 ∷ 30 ∷ []))) ∷ Some (sized (given (1 ∷ 2 ∷ 3 ∷ []))) ∷ [] }
     ensures automatic_widths { map (λ t. option_meaning ListTable Widths (codes t)) ("auto" ∷ "Auto" ∷ "auto 1" ∷ []) ≡ Some (sized auto) ∷ None ∷ None ∷ [] }
+    ensures drawn_widths { map (λ t. option_meaning TableOptions Widths (codes t)) ("grid" ∷ "Grid" ∷ "grid 1" ∷ "auto" ∷ "2 3" ∷ [])
+        ≡ Some (sized drawn) ∷ None ∷ None ∷ Some (sized auto) ∷ Some (sized (given (2 ∷ 3 ∷ []))) ∷ [] }
+    ensures not_drawn { option_meaning ListTable Widths (codes "grid") ≡ None }
     ensures no_widths { map (λ t. option_meaning ListTable Widths (codes t)) ("" ∷ "1," ∷ "1 2, 3" ∷ "1 0" ∷ "-1" ∷ "x" ∷ "1000000000" ∷ [])
         ≡ None ∷ None ∷ None ∷ None ∷ None ∷ None ∷ None ∷ [] }
-    ensures classes_of_widths { map (λ columns. columns_class columns) (auto ∷ given (1 ∷ []) ∷ []) ≡ codes "colwidths-auto" ∷ codes "colwidths-given" ∷ [] }
+    ensures classes_of_widths { map (λ columns. columns_class columns) (auto ∷ drawn ∷ given (1 ∷ []) ∷ [])
+        ≡ codes "colwidths-auto" ∷ codes "colwidths-given" ∷ codes "colwidths-given" ∷ [] }
     ensures target { map (λ t. option_meaning Image Target (codes t)) ("a_" ∷ "" ∷ []) ≡ Some (linked (named (codes "a")) (codes "a_")) ∷ None ∷ [] }
 {}
 
@@ -406,6 +414,8 @@ pub fn places()
     ensures table { map (λ place. option_map (λ k. content_fault k false place false) (directive_named all_parts (codes "list-table") true)) (Sections ∷ Body ∷ [])
         ≡ Some None ∷ Some None ∷ [] }
     ensures table_without_rows { option_map (λ k. content_fault k true Body false) (directive_named all_parts (codes "list-table") true) ≡ Some (Some NoRows) }
+    ensures without_a_table { map (λ empty. option_map (λ k. content_fault k empty Body false) (directive_named all_parts (codes "table") true)) (true ∷ false ∷ [])
+        ≡ Some (Some NoTable) ∷ Some None ∷ [] }
     ensures content_of_contents { option_map (λ k. content_fault k false Sections false) (directive_named all_parts (codes "contents") true)
         ≡ Some (Some (Inside ContentNotPermitted)) }
     ensures two_paragraphs { option_map (λ k. content_fault k false Body false) (directive_named no_parts (codes "replace") true)
@@ -485,6 +495,7 @@ pub fn messages()
         ≡ codes "1 argument(s) required, 0 supplied." ∷ codes "at most 1 argument permitted." ∷ codes "no content permitted."
         ∷ codes "may contain a single paragraph only." ∷ [] }
     ensures without_rows { fault_text no_rows (codes "List-table") ≡ codes "The \"List-table\" directive is empty; content required." }
+    ensures without_a_table { fault_text no_table (codes "Table") ≡ codes "Content block expected for the \"Table\" directive; none found." }
     ensures without_content { fault_text no_content (codes "tip") ≡ codes "Content block expected for the \"tip\" directive; none found." }
     ensures topic { fault_text topic_not_here (codes "topic") ≡ codes "The \"topic\" directive may not be used within topics or body elements." }
     ensures sidebar { fault_text sidebar_not_here (codes "Sidebar") ≡ codes "The \"Sidebar\" directive may not be used within topics or body elements." }
@@ -493,6 +504,7 @@ pub fn messages()
         ≡ codes "Invalid context: the \"replace\" directive can only be used within a substitution definition." }
     ensures disabled { fault_text disabled (codes "include") ≡ codes "\"include\" directive disabled." }
     ensures classes { fault_text (invalid_classes (codes "1")) (codes "Container") ≡ codes "Invalid class attribute value for \"Container\" directive: \"1\"." }
-    ensures levels { map (λ f. fault_level f) (disabled ∷ no_content ∷ invalid_classes [] ∷ []) ≡ Warning ∷ Error ∷ Error ∷ [] }
+    ensures levels { map (λ f. fault_level f) (disabled ∷ no_table ∷ no_content ∷ no_rows ∷ invalid_classes [] ∷ [])
+        ≡ Warning ∷ Warning ∷ Error ∷ Error ∷ Error ∷ [] }
     ensures definition { fault_text not_in_substitution (codes "a") ≡ codes "Substitution definition \"a\" may hold only image or replace." }
 {}

@@ -32,7 +32,7 @@ pub enum OptionValue {
     Name(String),
     /// The word of `backlinks`.
     Backlinks(Backlinks),
-    /// The word or the numbers of `widths`.
+    /// A word or the numbers of `widths`.
     Widths(Widths),
 }
 
@@ -57,7 +57,7 @@ pub(crate) fn option_value(
         }
         OptionName::Scale => Ok(scale_of(alloc, value)?.map(|number| OptionValue::Number(number))),
         OptionName::Align => {
-            let vertical = !matches!(options, OptionSet::Figure | OptionSet::ListTable);
+            let vertical = options.has_vertical();
             Ok(alignment_of(value, vertical).map(|alignment| OptionValue::Place(alignment)))
         }
         OptionName::Class | OptionName::FigureClass => {
@@ -81,7 +81,8 @@ pub(crate) fn option_value(
             Ok(backlinks_of(value).map(|backlinks| OptionValue::Backlinks(backlinks)))
         }
         OptionName::Widths => {
-            Ok(widths_of(alloc, value)?.map(|widths| OptionValue::Widths(widths)))
+            let widths = widths_of(alloc, options.has_drawn(), value)?;
+            Ok(widths.map(|widths| OptionValue::Widths(widths)))
         }
         OptionName::Subtitle | OptionName::File | OptionName::Url => {
             if is_empty_text(value) {

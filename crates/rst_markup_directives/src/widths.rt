@@ -13,6 +13,8 @@ use std::alloc::{AllocError, Global};
 pub enum Widths {
     /// Those that the content takes.
     Auto,
+    /// Those that are drawn.
+    Drawn,
     /// These, at least one, each above 0.
     Given(Vec<u64>),
 }
@@ -24,7 +26,7 @@ impl Widths {
     {
         match self {
             Widths::Auto => "colwidths-auto",
-            Widths::Given(_) => "colwidths-given",
+            Widths::Drawn | Widths::Given(_) => "colwidths-given",
         }
     }
 
@@ -36,6 +38,7 @@ impl Widths {
     {
         match self {
             Widths::Auto => Ok(Widths::Auto),
+            Widths::Drawn => Ok(Widths::Drawn),
             Widths::Given(widths) => Ok(Widths::Given(Vec::from_slice(alloc, widths)?)),
         }
     }
@@ -90,13 +93,20 @@ fn widths_in(alloc: Global, text: &[char]) -> Result<Option<Vec<u64>>, AllocErro
     widths_among(alloc, &parts)
 }
 
-/// The widths that a value asks for: the word for those that the content takes, or numbers.
+/// The widths that a value asks for: the word for those that the content takes, that for those that are drawn where `drawn`, or numbers.
 #[tactic(auto, unfolding(crate::specs::Widths::columns_of))]
-pub(crate) fn widths_of(alloc: Global, text: &[char]) -> Result<Option<Widths>, AllocError>
-    ensures { IfOk result (λ widths. option_map spec.columns_in widths ≡ spec.columns_of text.now) }
+pub(crate) fn widths_of(
+    alloc: Global,
+    drawn: bool,
+    text: &[char],
+) -> Result<Option<Widths>, AllocError>
+    ensures { IfOk result (λ widths. option_map spec.columns_in widths ≡ spec.columns_of drawn text.now) }
 {
     if is_word(text, "auto", true) {
         return Ok(Some(Widths::Auto));
+    }
+    if drawn && is_word(text, "grid", true) {
+        return Ok(Some(Widths::Drawn));
     }
     let text = text_from(alloc, text)?;
     let text = normalized_white(alloc, text.as_str())?;

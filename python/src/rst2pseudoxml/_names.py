@@ -29,7 +29,7 @@ _BASE = (
     frozenset("emphasis literal strong sub subscript sup superscript t title title-reference".split()),
 )
 _WIDER = (
-    frozenset("compound container epigraph highlights line-block list-table math parsed-literal pull-quote raw rubric sidebar".split()),
+    frozenset("compound container epigraph highlights line-block list-table math parsed-literal pull-quote raw rubric sidebar table".split()),
     frozenset(
         "ab abbreviation ac acronym anonymous-reference citation-reference code footnote-reference i index math named-reference pep "
         "pep-reference raw rfc rfc-reference substitution-reference target uri uri-reference url".split()

@@ -20,7 +20,7 @@ use Rattle.rst_block_state.specs.declared.frame.Ended.TheVariants.{Waiting, Goes
 use Rattle.rst_block_state.specs.declared.frame.Frame.{Frame}
 use Rattle.rst_block_state.specs.declared.open_block.OpenBlock.{OpenBlock}
 use Rattle.rst_block_state.specs.declared.waits.Waits.{Waits}
-use Rattle.rst_block_state.specs.declared.waits.Waits.TheVariants.{Quote, Figure, Rows}
+use Rattle.rst_block_state.specs.declared.waits.Waits.TheVariants.{Quote, Figure, Table}
 use Rattle.rst_block_state.specs.declared.run.Run.{Run}
 use Rattle.rst_block_state.specs.declared.run.Run.TheVariants.{None as NoRun}
 use Rattle.rst_block_state.specs.declared.step.Step.{Step}
@@ -75,12 +75,12 @@ run_looks NoRun = 0
 run_looks run = 1
 
 -- The looks that are taken in a block that waits before it goes on: 16 at each line of quotes that are found, and one at the line after them; and one
--- at each line of a figure or of a table that is made of lists, if a message quotes them.
+-- at each line of a figure or of a table that a directive makes, if a message quotes them.
 abbrev pub waiting_looks : Waits → ℕ
 waiting_looks (Quote line attribution None end) = 1
 waiting_looks (Quote line attribution (Some p) end) = 1 + 16 * (p.to - p.from)
 waiting_looks (Figure figure start end) = end - start
-waiting_looks (Rows d) = let o = box_value d in o.end - o.start
+waiting_looks (Table d) = let o = box_value d in o.end - o.start
 waiting_looks w = 0
 
 -- the blocks that are still to be read before a block goes on that waits, after one of its parts

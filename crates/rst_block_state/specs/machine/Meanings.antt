@@ -11,13 +11,13 @@ use Rattle.rst_markup_blocks.specs.declared.part.Part.{Part}
 use Rattle.rst_markup_tables.specs.Ends.{end_of}
 use Rattle.rst_block_nodes.specs.Elements.{element_of}
 use Rattle.rst_block_nodes.specs.LineBlocks.{indented}
-use Rattle.rst_block_nodes.specs.ListTables.{asked_in}
+use Rattle.rst_block_nodes.specs.TableRequests.{asked_in}
 use Rattle.rst_block_nodes.specs.declared.texted.Texted.{Texted}
 use Rattle.rst_block_nodes.specs.Sections.{items_of, filled}
 use Rattle.rst_block_state.specs.Constructs.{block_quote, grid}
 use Rattle.rst_block_state.specs.Directives.{classed, first_paragraph, replacement, with_words}
 use Rattle.rst_block_state.specs.Figures.{caption_error, figure_nodes}
-use Rattle.rst_block_state.specs.ListTables.{list_table_nodes}
+use Rattle.rst_block_state.specs.TableDirectives.{directive_table_nodes}
 use Rattle.rst_block_state.specs.Joins.{Joining, bullets, enumerators, definitions, fields, options, alone_ending}
 use Rattle.rst_block_state.specs.Nodes.{plainly, inner_nodes, below_last_level, block_items, nodes_among, ending_notes}
 use Rattle.rst_block_state.specs.Numbered.{Numbered, ◌>>=◌, just, before}
@@ -32,7 +32,7 @@ use Rattle.rst_block_nodes.specs.declared.fault.BlockFault.TheVariants.{TooDeep,
 use Rattle.rst_block_state.specs.declared.frame.Frame.{Frame}
 use Rattle.rst_block_state.specs.declared.open_block.OpenBlock.{OpenBlock}
 use Rattle.rst_block_state.specs.declared.waits.Waits.{Waits}
-use Rattle.rst_block_state.specs.declared.waits.Waits.TheVariants.{ListItem as InItem, ListedBody, Quote, Element, Quotes, Classes, Figure, Rows, Replacement}
+use Rattle.rst_block_state.specs.declared.waits.Waits.TheVariants.{ListItem as InItem, ListedBody, Quote, Element, Quotes, Classes, Figure, Table, Replacement}
 use Rattle.rst_block_state.specs.declared.run.ListKind.{ListKind}
 use Rattle.rst_block_state.specs.declared.run.ListKind.TheVariants.{Bullet, Enumerated, Definition, Field, OptionItem}
 use Rattle.rst_block_state.specs.declared.run.OpenList.{OpenList}
@@ -143,9 +143,9 @@ resumed l B (Classes element) ns = reads_from l B (map (with_words (classes_of e
 resumed l B (Figure figure start end) ns =
     let error = caption_error (first_number (drop start B)) (span_source B (record { start = start; stop = end })) in
     reads_from l B (figure_nodes figure error ns) l.at
-resumed l B (Rows d) ns =
+resumed l B (Table d) ns =
     let o = box_value d in
-    reads_from l B (list_table_nodes (first_number (drop o.start B)) (span_source B (record { start = o.start; stop = o.end })) o.table (asked_in o.asked) ns) l.at
+    reads_from l B (directive_table_nodes o.directive (first_number (drop o.start B)) (span_source B (record { start = o.start; stop = o.end })) o.table (asked_in o.asked) ns) l.at
 resumed l B (Replacement d) ns =
     let o = box_value d in reads_from l B (replacement (string_bytes o.name) o.line (string_bytes o.source) (first_paragraph ns) ∷ []) l.at
 

@@ -5,9 +5,9 @@ use Rattle.rst_text.specs.ViewBlock.{block_of}
 use Rattle.rst_tree.specs.declared.node.Node.{Node}
 use Rattle.rst_tree.specs.declared.tag.Tag.TheVariants.{ListItem}
 use Rattle.rst_block_nodes.specs.Elements.{element_of}
-use Rattle.rst_block_nodes.specs.ListTables.{asked_in}
+use Rattle.rst_block_nodes.specs.TableRequests.{asked_in}
 use Rattle.rst_block_state.specs.Directives.{first_paragraph, replacement}
-use Rattle.rst_block_state.specs.ListTables.{list_table_nodes}
+use Rattle.rst_block_state.specs.TableDirectives.{directive_table_nodes}
 use Rattle.rst_block_state.specs.Texts.{span_source}
 use Rattle.rst_block_state.specs.looks.Ledger.{WaitsForOne, run_looks, waiting_looks}
 use Rattle.rst_block_state.specs.machine.Meanings.{after_quote, quote_by, resumed}
@@ -57,25 +57,25 @@ returns-in-Figure c =
       };
     }
 
-pub returns-in-Rows : goal.returns-in-Rows
-returns-in-Rows c =
+pub returns-in-Table : goal.returns-in-Table
+returns-in-Table c =
     let B : Block = block_of c.args.view.now in
     let n = c.args.pass.now.numbers in
     let old = c.args.level.now in
-    let x = c.in-Rows in
-    let m = c.in_ok-append_marked-in-Rows.ensures.more in
-    let run : run_looks c.append_marked-in-Rows.new.self.run ≡ run_looks old.run = ap run_looks m.run in
+    let x = c.in-Table in
+    let m = c.in_ok-append_marked-in-Table.ensures.more in
+    let run : run_looks c.append_marked-in-Table.new.self.run ≡ run_looks old.run = ap run_looks m.run in
     let o = box_value x.boxed in
     let same : c.into_inner-table.result ≡ o = c.into_inner-table.ensures in
     let lines : waiting_looks c.args.waits ≡ o.end - o.start = ap waiting_looks x.is in
     let looked : c.finished_table.new.looks ≤ c.args.pass.now.looks + (o.end - o.start) = subst (λ (t : OpenTable). c.finished_table.new.looks ≤ c.args.pass.now.looks + (t.end - t.start)) same c.finished_table.ensures.looks in
-    let nodes : OpenTable → List Node = λ t. list_table_nodes (first_number (drop t.start B)) (span_source B (record { start = t.start; stop = t.end })) t.table (asked_in t.asked) c.args.nodes in
+    let nodes : OpenTable → List Node = λ t. directive_table_nodes t.directive (first_number (drop t.start B)) (span_source B (record { start = t.start; stop = t.end })) t.table (asked_in t.asked) c.args.nodes in
     record {
       step = m.at;
       goes = record {
         kept = m.depth;
-        read = nodes_given B n m (c.in_ok-made-in-Rows.ensures.table ∙ ap nodes same) refl ∙ ap (λ waits. resumed old B waits c.args.nodes n) (sym x.is);
-        paid = waited old c.append_marked-in-Rows.new.self B c.args.waits _ _ (subst WaitsForOne (sym x.is) tt) m.depth m.at (omega (arith, run)) (omega (arith, lines, looked)) c.in_ok-made-in-Rows.ensures.low;
+        read = nodes_given B n m (c.in_ok-made-in-Table.ensures.table ∙ ap nodes same) refl ∙ ap (λ waits. resumed old B waits c.args.nodes n) (sym x.is);
+        paid = waited old c.append_marked-in-Table.new.self B c.args.waits _ _ (subst WaitsForOne (sym x.is) tt) m.depth m.at (omega (arith, run)) (omega (arith, lines, looked)) c.in_ok-made-in-Table.ensures.low;
       };
     }
 

@@ -1,6 +1,6 @@
 use Rattle.std.proofs.Common.{sym, ap, ◌∙◌}
 use Rattle.std.proofs.lemmas.Result.{IfOk-weaker}
-use Rattle.rst_block_nodes.specs.ListTables.{table_fault_text}
+use Rattle.rst_block_nodes.specs.TableFaults.{table_fault_text}
 use Rattle.rst_block_nodes.proofs.table_faults.table_fault_text.Goals as goal
 
 pub returns-in-NoBody : goal.returns-in-NoBody

@@ -10,6 +10,7 @@ returns c = record {
   options = refl;
   others = refl;
   without_rows = refl;
+  without_a_table = refl;
   without_content = refl;
   topic = refl;
   sidebar = refl;

@@ -15,6 +15,7 @@ returns c = record {
   further = refl;
   sidebar = refl;
   contents = refl;
+  table = refl;
   list_table = refl;
   quotes = refl;
   quote_classes = refl;

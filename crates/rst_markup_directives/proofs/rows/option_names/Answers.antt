@@ -13,6 +13,7 @@ returns c = record {
   of_contents = refl;
   contents = refl;
   of_contents_alone = refl;
+  of_a_table = refl;
   of_tables = refl;
   tables = refl;
   of_tables_alone = refl;

@@ -23,6 +23,7 @@ returns c = record {
   contents = refl;
   table = refl;
   table_without_rows = refl;
+  without_a_table = refl;
   content_of_contents = refl;
   two_paragraphs = refl;
 }
