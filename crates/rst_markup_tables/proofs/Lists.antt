@@ -1,15 +1,21 @@
 -- Lists that are read an item at a time.
 use Rattle.std.proofs.Common.{◌≡◌, ℕ, zero, suc, ◌+◌, ◌-◌, ◌<◌, ◌≤◌, Bool, true, false, cond, List, [], ◌∷◌, ◌++◌, get_or, length, drop, map, filter, refl, sym, ap, ◌∙◌, arith, append_assoc, add-one, Option, Some, None}
+use Rattle.std.proofs.lemmas.Bool.{and_parts}
 use Rattle.std.proofs.lemmas.List.{drop_more}
 use Rattle.rst_text.specs.Places.{first_from}
 use Rattle.rst_text.proofs.PlacesLemmas.{first_from-is}
 use Rattle.std.specs.Option.{MatchOption}
-use Rattle.std.specs.List.{range_with_len}
+use Rattle.std.specs.List.{list_all, range_with_len}
 use Rattle.rst_markup_tables.specs.Counts.{below}
 
 -- what is left of a list whose item at place i was read
 pub read_more : {X : Type 0} (xs : List X) (i : ℕ) (x : X) → i < length xs → x ≡ get_or xs i x → drop i xs ≡ x ∷ drop (i + 1) xs
 read_more xs i x below is = drop_more xs i x below ∙ ap (λ y. y ∷ drop (i + 1) xs) (sym is)
+
+-- where all pass a test, none is left out
+pub filter-all : {X : Type 0} (p : X → Bool) (xs : List X) → list_all p xs ≡ true → filter p xs ≡ xs
+filter-all p [] h = refl
+filter-all p (x ∷ xs) h = let parts = and_parts (p x) (list_all p xs) h in rw parts.0 (ap (λ l. x ∷ l) (filter-all p xs parts.1))
 
 -- ---- numbers that pass
 

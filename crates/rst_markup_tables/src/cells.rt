@@ -10,7 +10,7 @@ ghost use Rattle.rst_markup_tables.specs.Places.{AreNumbered};
 
 use super::Result;
 use super::places::{Place, TableLine, row_at};
-use super::results::CellLines;
+use super::results::{CellLines, Texts};
 use rst_markup_lines::is_blank;
 use rst_settings::Parts;
 use rst_text::{indentation, skip};
@@ -81,13 +81,17 @@ pub(crate) fn all_places(alloc: Global, lines: &[TableLine]) -> Result<Vec<usize
 pub(crate) fn reaching(
     alloc: Global,
     lines: &[TableLine],
-    among: &[usize],
+    among: Vec<usize>,
     n: usize,
 ) -> Result<Vec<usize>>
-    ensures { IfOk result (λ found. found.items ≡ filter (reaches lines.now n) among.now) }
+    ensures { IfOk result (λ found. found.items ≡ filter (reaches lines.now n) among.items) }
 {
-    let among = among.iter().copied();
-    among.filter(|k| row_at(lines, *k).len() > n).collect(alloc)
+    // Most often all are, and then their list stays.
+    if among.iter().all(|k| row_at(lines, *k).len() > n) {
+        return Ok(among);
+    }
+    let places = among.iter().copied();
+    places.filter(|k| row_at(lines, *k).len() > n).collect(alloc)
 }
 
 /// The least indentation of texts that aren't blank, 0 if there is none.
@@ -149,7 +153,7 @@ pub(crate) fn cell_lines(
     Ok(CellLines {
         first,
         count,
-        texts,
+        texts: Texts::of(texts),
         parts,
     })
 }

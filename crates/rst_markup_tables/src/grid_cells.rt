@@ -57,7 +57,7 @@ impl Ranks<'_> {
         let alloc = self.tiling.alloc;
         let lines = &self.tiling.lines[rectangle.top + 1..rectangle.bottom];
         let left = rectangle.left + 1;
-        let among = reaching(alloc, lines, &all_places(alloc, lines)?, left)?;
+        let among = reaching(alloc, lines, all_places(alloc, lines)?, left)?;
         let lines = cell_lines(alloc, lines, &among, left, Some(rectangle.right))?;
         let rows = self
             .row(rectangle.bottom)

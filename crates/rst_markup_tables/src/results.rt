@@ -5,6 +5,41 @@ use rst_settings::Parts;
 use rst_text::Lines;
 use std::alloc::{AllocError, Global};
 use std::marker::Model;
+use std::slice;
+
+/// The texts of a cell that aren't blank, with their places. Most cells have one, which takes no list.
+#[derive(Debug, Drop)]
+pub(crate) enum Texts {
+    One((usize, String)),
+    More(Vec<(usize, String)>),
+}
+
+impl Texts {
+    ghost use Rattle.rst_text.specs.Source.{texts_with};
+    ghost use Rattle.rst_markup_tables.specs.Kept.{kept_texts};
+
+    /// These texts.
+    pub(crate) fn of(mut texts: Vec<(usize, String)>) -> Texts
+        ensures { kept_texts result ≡ texts_with texts.items }
+    {
+        if texts.len() == 1 {
+            if let Some(text) = texts.pop() {
+                return Texts::One(text);
+            }
+        }
+        Texts::More(texts)
+    }
+
+    /// The texts.
+    fn as_slice(&self) -> &[(usize, String)]
+        ensures { texts_with result.now ≡ kept_texts self.now }
+    {
+        match self {
+            Texts::One(text) => slice::from_ref(text),
+            Texts::More(texts) => texts.as_slice(),
+        }
+    }
+}
 
 /// The lines of a cell: the number of the first in the document, how many there are, the texts of those that aren't
 /// blank, by their places from 0 on, and the parts that hold in all of them. In a text no character ends a line, and no white
@@ -13,7 +48,7 @@ use std::marker::Model;
 pub struct CellLines {
     pub(crate) first: usize,
     pub(crate) count: usize,
-    pub(crate) texts: Vec<(usize, String)>,
+    pub(crate) texts: Texts,
     pub(crate) parts: Parts,
 }
 
@@ -22,14 +57,15 @@ impl Model for CellLines {
 
     ghost Value = { Block };
 
-    ghost use Rattle.rst_text.specs.Source.{spread, texts_with};
+    ghost use Rattle.rst_text.specs.Source.{spread};
+    ghost use Rattle.rst_markup_tables.specs.Kept.{kept_texts};
 
-    ghost view = { λ l. spread l.parts l.first l.count (texts_with l.texts.items) };
+    ghost view = { λ l. spread l.parts l.first l.count (kept_texts l.texts) };
 
     ghost use Rattle.std.specs.Prelude.{◌+◌, ◌^◌, ◌<◌, ◌≤◌};
     ghost use Rattle.rst_text.specs.Source.{ArePlaced};
 
-    ghost invariant = { λ l. ArePlaced 0 l.count (texts_with l.texts.items) × (l.count < 2 ^ 63) × (l.first + l.count ≤ 2 ^ 64) };
+    ghost invariant = { λ l. ArePlaced 0 l.count (kept_texts l.texts) × (l.count < 2 ^ 63) × (l.first + l.count ≤ 2 ^ 64) };
 }
 
 impl CellLines {

@@ -40,7 +40,7 @@ fn entries(alloc: Global, lines: &[TableLine], spans: &[RuleSpan]) -> Result<Vec
     for k in 0..spans.len() {
         let span = span_of(spans, k);
         // A line that ends before one span ends before each later span, too.
-        among = reaching(alloc, lines, &among, span.from)?;
+        among = reaching(alloc, lines, among, span.from)?;
         // The last span has no end.
         let right = (k + 1 != spans.len()).then_some(span.to);
         let lines = cell_lines(alloc, lines, &among, span.from, right)?;

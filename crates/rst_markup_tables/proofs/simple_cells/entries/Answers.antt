@@ -12,8 +12,8 @@ use Rattle.rst_markup_tables.proofs.simple_cells.entries.Goals as goal
 pub cell_lines-requires-clause-among : goal.cell_lines-requires-clause-among
 cell_lines-requires-clause-among c =
     let left : ℕ = (span_of c.args.spans.now c.loop-k.k).from in
-    c.deref-in-loop-k.ensures.value ∙ c.in_ok-among-2.ensures
-    ∙ ap₂ (λ (s : RuleSpan) ks. filter (reaches c.args.lines.now s.from) ks) c.span_of-span.ensures c.deref.ensures.value
+    c.deref.ensures.value ∙ c.in_ok-among-2.ensures
+    ∙ ap (λ (s : RuleSpan). filter (reaches c.args.lines.now s.from) c.loop-k.among.items) c.span_of-span.ensures
     ∙ c.loop-k.invariant.among left (λ some. order-before c.loop-k.k c.args.spans.now c.requires.order some (omega arith))
     ∙ ap (λ (s : RuleSpan). reaching c.args.lines.now s.from) (sym c.span_of-span.ensures)
 
@@ -21,7 +21,7 @@ pub loop-k-preserved : goal.loop-k-preserved
 loop-k-preserved c =
     let left : ℕ = (span_of c.args.spans.now c.loop-k.k).from in
     let step = each_from-more (entry c.args.lines.now c.args.spans.now) c.loop-k.k (length c.args.spans.now) (omega arith) in
-    let found = c.in_ok-among-2.ensures ∙ ap₂ (λ (s : RuleSpan) ks. filter (reaches c.args.lines.now s.from) ks) c.span_of-span.ensures c.deref.ensures.value in
+    let found = c.in_ok-among-2.ensures ∙ ap (λ (s : RuleSpan). filter (reaches c.args.lines.now s.from) c.loop-k.among.items) c.span_of-span.ensures in
     let right : c.then_some-right.result ≡ span_right c.args.spans.now c.loop-k.k = search rules in
     let lines : c.in_ok-lines.lines ≡ cell_block left (span_right c.args.spans.now c.loop-k.k) c.args.lines.now =
     c.in_ok-lines.ensures ∙ ap₂ (λ (s : RuleSpan) (right : Option ℕ). cell_block s.from right c.args.lines.now) c.span_of-span.ensures right in
