@@ -24,7 +24,7 @@ pub fn parse(alloc: Global, lines: &Lines) -> Result<Parsed>
     let mut pass = Pass {
         alloc,
         looks: Looks::none(),
-        numbers: Numbers::none(),
+        numbers: Numbers::none(alloc),
     };
     let mut frames = Frames::none(alloc);
     let mut level = OpenBlock::new(alloc, 0);

@@ -8,7 +8,7 @@ ghost use Rattle.rst_block_nodes.specs.Terms.{ended_groups, heads_of, with_parts
 use super::nodes::element_of;
 use super::numbers::Numbers;
 use super::texted::{counting, messages_of};
-use rst_inline::{Pieces, inline_from, part};
+use rst_inline::{Pieces, part};
 use rst_inline_scan::{Kind, Piece, pieces_of};
 use rst_settings::Parts;
 use rst_text::{characters_of, escapes, is_white};
@@ -40,10 +40,10 @@ pub fn term_and_classifiers(
     ensures read { IfOk result (λ made. termed parts.now (chars text.now) line numbers.old ≡ Ok ((made.heads.items, made.notes.items), numbers.new)) }
 {
     let characters = characters_of(alloc, text)?;
-    let pieces = pieces_of(alloc, parts.mail, &characters)?;
+    let pieces = pieces_of(alloc, parts.mail, &characters, Vec::new(alloc))?;
     let plain = plain_parts(alloc, &characters, &pieces)?;
     let first = numbers.given();
-    let Pieces { nodes, notes } = inline_from(alloc, parts, text, line, first)?;
+    let Pieces { nodes, notes } = numbers.inline(alloc, parts, text, line)?;
     numbers.give(notes.len());
     let notes = messages_of(alloc, notes, first)?;
     let nodes = with_parts(alloc, nodes, plain)?;

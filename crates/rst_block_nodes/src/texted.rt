@@ -7,7 +7,7 @@ ghost use Rattle.rst_block_nodes.specs.Results.{HoldsText};
 
 use super::nodes::element_of;
 use super::numbers::Numbers;
-use rst_inline::{Pieces, inline_from};
+use rst_inline::Pieces;
 use rst_settings::Parts;
 use rst_tree::{Attrs, Key, Node, Note, Result, Tag, Value};
 use std::alloc::Global;
@@ -39,7 +39,7 @@ pub fn with_text(
     ensures read { IfOk result (λ made. texted parts.now tag line (chars text.now) text_line numbers.old ≡ Ok ((made.element, made.notes.items), numbers.new)) }
 {
     let first = numbers.given();
-    let Pieces { nodes, notes } = inline_from(alloc, parts, text, text_line, first)?;
+    let Pieces { nodes, notes } = numbers.inline(alloc, parts, text, text_line)?;
     // Most texts have no messages.
     if notes.is_empty() {
         return Ok(Texted {

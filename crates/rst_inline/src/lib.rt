@@ -14,6 +14,7 @@ mod references;
 mod roles;
 pub mod rows;
 mod texts;
+mod workspace;
 mod written;
 
 pub use elements::handed;
@@ -22,3 +23,4 @@ pub use nodes::{Pieces, inline, inline_from};
 pub use roles::is_wider_role;
 pub use rst_inline_scan::plain_uri;
 pub use texts::{part, unescape};
+pub use workspace::Workspace;

@@ -5,11 +5,13 @@ ghost use Rattle.rst_inline.specs.Results.{AreReadFromPieces, IsRead};
 
 use super::elements::{problematic, text_nodes};
 use super::reading::Meaning;
+use super::workspace::Workspace;
 use super::written::Written;
 use rst_inline_scan::{Kind, Markup, Piece, Suffix, is_quiet};
 use rst_settings::Parts;
 use rst_tree::{Node, Note, Result};
 use std::alloc::Global;
+use std::mem;
 
 /// The nodes of an inline text in order, and its messages. The n-th problematic among the nodes has the number of the n-th
 /// message.
@@ -26,10 +28,10 @@ pub struct Pieces {
 pub fn inline(alloc: Global, parts: &Parts, text: &str, line: usize) -> Result<Pieces>
     ensures { IfOk result (IsRead parts.now (chars text.now) line 0) }
 {
-    inline_from(alloc, parts, text, line, 0)
+    inline_from(alloc, parts, text, line, 0, &mut Workspace::new(alloc))
 }
 
-/// What [`inline`] gives, with the messages numbered from `first` on.
+/// What [`inline`] gives, with the messages numbered from `first` on. The lists of the workspace serve one text after another.
 ///
 /// The only refusal is [`AllocError`].
 pub fn inline_from(
@@ -38,6 +40,7 @@ pub fn inline_from(
     text: &str,
     line: usize,
     first: u64,
+    workspace: &mut Workspace,
 ) -> Result<Pieces>
     ensures { IfOk result (IsRead parts.now (chars text.now) line first) }
 {
@@ -49,16 +52,38 @@ pub fn inline_from(
             notes: Vec::new(alloc),
         });
     }
-    let written = Written::of(alloc, parts, text, line)?;
-    let pieces = written.pieces()?;
-    written.read(&pieces, first)
+    marked_text(alloc, parts, text, line, first, workspace)
+}
+
+/// The same, whether the text is quiet or not.
+// Its frame is large, and quiet texts need none of it.
+#[inline(never)]
+fn marked_text(
+    alloc: Global,
+    parts: &Parts,
+    text: &str,
+    line: usize,
+    first: u64,
+    workspace: &mut Workspace,
+) -> Result<Pieces>
+    ensures { IfOk result (IsRead parts.now (chars text.now) line first) }
+{
+    let Workspace {
+        characters,
+        starts,
+        pieces,
+    } = mem::replace(workspace, Workspace::new(alloc));
+    let written = Written::of(alloc, parts, text, line, characters, starts)?;
+    let pieces = written.pieces(pieces)?;
+    let read = written.read(&pieces, first)?;
+    *workspace = written.into_workspace(pieces);
+    Ok(read)
 }
 
 impl Written<'_> {
     /// The nodes and the messages of the pieces of the text. The messages are numbered from `first` on.
-    // Its frame is large, and quiet texts need none of it.
     #[tactic(auto, unfolding(crate::specs::Readings::reading))]
-    #[inline(never)]
+    #[inline(always)]
     fn read(&self, pieces: &[Piece], first: u64) -> Result<Pieces>
         requires { All (IsWithin self.now.characters.items) pieces.now }
         ensures { IfOk result (AreReadFromPieces self.now.parts.now self.now.characters.items self.now.line first pieces.now) }

@@ -7,9 +7,10 @@ ghost use Rattle.rst_inline_scan.specs.Pieces.{IsPieces};
 ghost use Rattle.rst_inline.specs.Parts.{content, part, text_bytes, starts_of};
 
 use super::texts::{part, spell};
+use super::workspace::Workspace;
 use rst_inline_scan::{Piece, pieces_of, pieces_of_ascii};
 use rst_settings::Parts;
-use rst_text::{ascii_characters, unescaped};
+use rst_text::unescaped;
 use std::alloc::{AllocError, Global};
 use std::borrow::CowStr;
 
@@ -33,19 +34,37 @@ pub(crate) struct Written<'a> {
     ghost plain: { escapes ≡ false → has_backslash characters.items ≡ false },
 }
 
+/// ASCII as characters, each of which is a byte. They take the place of what is in the list.
+fn with_ascii(bytes: &[u8], mut characters: Vec<char>) -> Result<Vec<char>, AllocError>
+    ensures { IfOk result (λ characters. characters.items ≡ bytes.now) }
+{
+    characters.clear();
+    characters.reserve(bytes.len())?;
+    for byte in bytes {
+        characters.push_reserved(char::from(*byte));
+    }
+    Ok(characters)
+}
+
 /// The characters of a text, and the byte at which each of them begins, with the length of the text after them; none where each
-/// character is a byte.
-fn with_starts(alloc: Global, text: &str) -> Result<(Vec<char>, Vec<usize>), AllocError>
+/// character is a byte. They take the place of what is in two lists.
+fn with_starts(
+    text: &str,
+    mut characters: Vec<char>,
+    mut starts: Vec<usize>,
+) -> Result<(Vec<char>, Vec<usize>), AllocError>
     ensures characters { IfOk result (λ made. made.0.items ≡ chars text.now) }
     ensures ascii { IfOk result (λ made. vec_len made.1 ≡ 0 → IsAscii made.0.items) }
     ensures begun { IfOk result (λ made. 0 < vec_len made.1 → made.1.items ≡ starts_of 0 made.0.items) }
 {
+    starts.clear();
     if text.is_ascii() {
-        let characters = ascii_characters(alloc, text.as_bytes())?;
-        return Ok((characters, Vec::new(alloc)));
+        let characters = with_ascii(text.as_bytes(), characters)?;
+        return Ok((characters, starts));
     }
-    let mut characters = Vec::with_capacity(alloc, text.len())?;
-    let mut starts = Vec::with_capacity(alloc, text.len() + 1)?;
+    characters.clear();
+    characters.reserve(text.len())?;
+    starts.reserve(text.len() + 1)?;
     for (at, c) in text.char_indices() {
         starts.push_reserved(at);
         characters.push_reserved(c);
@@ -61,12 +80,14 @@ impl<'a> Written<'a> {
         parts: &'a Parts,
         text: &'a str,
         line: usize,
+        characters: Vec<char>,
+        starts: Vec<usize>,
     ) -> Result<Written<'a>, AllocError>
         ensures text { IfOk result (λ written. written.characters.items ≡ chars text.now) }
         ensures line { IfOk result (λ written. written.line ≡ line) }
         ensures parts { IfOk result (λ written. written.parts.now ≡ parts.now) }
     {
-        let (characters, starts) = with_starts(alloc, text)?;
+        let (characters, starts) = with_starts(text, characters, starts)?;
         let escapes = text.as_bytes().contains(&b'\\');
         Ok(Written {
             alloc,
@@ -80,18 +101,18 @@ impl<'a> Written<'a> {
     }
 
     /// The pieces of the text.
-    pub(crate) fn pieces(&self) -> Result<Vec<Piece>, AllocError>
+    pub(crate) fn pieces(&self, pieces: Vec<Piece>) -> Result<Vec<Piece>, AllocError>
         ensures { IfOk result (λ pieces. IsPieces self.now.parts.now.mail self.now.characters.items 0 pieces.items) }
     {
         if self.starts.is_empty() {
             pieces_of_ascii(
-                self.alloc,
                 self.parts.mail,
                 &self.characters,
                 self.text.as_bytes(),
+                pieces,
             )
         } else {
-            pieces_of(self.alloc, self.parts.mail, &self.characters)
+            pieces_of(self.alloc, self.parts.mail, &self.characters, pieces)
         }
     }
 
@@ -137,5 +158,20 @@ impl<'a> Written<'a> {
     {
         let written = part(&self.characters, piece.content_from, piece.content_to);
         unescaped(self.alloc, written)
+    }
+
+    /// The lists that are no longer needed, and that of the pieces, for another text.
+    #[inline(always)]
+    pub(crate) fn into_workspace(self, pieces: Vec<Piece>) -> Workspace {
+        let Written {
+            characters,
+            starts,
+            ..
+        } = self;
+        Workspace {
+            characters,
+            starts,
+            pieces,
+        }
     }
 }

@@ -89,43 +89,48 @@ fn piece_at(
 /// The pieces of the text, in order, with e-mail addresses where `mail` asks for them. Exactly one list is that of a text
 /// ([`super::one_list_of_pieces`]).
 ///
-/// What a failed search has found to be absent is remembered, so that the time grows no faster than the text.
-pub fn pieces_of(alloc: Global, mail: bool, text: &[char]) -> Result<Vec<Piece>, AllocError>
+/// What a failed search has found to be absent is remembered, so that the time grows no faster than the text. The pieces
+/// take the place of what is in a list, so that a list can serve several texts.
+pub fn pieces_of(
+    alloc: Global,
+    mail: bool,
+    text: &[char],
+    pieces: Vec<Piece>,
+) -> Result<Vec<Piece>, AllocError>
     ensures { IfOk result (λ pieces. IsPieces mail text.now 0 pieces.items) }
 {
     if mail && text.contains(&'@') {
-        return pieces_and_addresses(alloc, text);
+        return pieces_and_addresses(text, pieces);
     }
     let mut bytes = Vec::with_capacity(alloc, text.len())?;
     for c in text {
         bytes.push_reserved(if c.is_ascii() { *c as u8 } else { 128 });
     }
-    pieces_by(alloc, text, &bytes)
+    pieces_by(text, &bytes, pieces)
 }
 
 /// The same of a text whose characters `bytes` are.
 pub fn pieces_of_ascii(
-    alloc: Global,
     mail: bool,
     text: &[char],
     bytes: &[u8],
+    pieces: Vec<Piece>,
 ) -> Result<Vec<Piece>, AllocError>
     requires { bytes.now ≡ text.now }
     ensures { IfOk result (λ pieces. IsPieces mail text.now 0 pieces.items) }
 {
     if mail && bytes.contains(&b'@') {
-        return pieces_and_addresses(alloc, text);
+        return pieces_and_addresses(text, pieces);
     }
-    pieces_by(alloc, text, bytes)
+    pieces_by(text, bytes, pieces)
 }
 
 /// The pieces of a text with no addresses, with a byte for each character: that of ASCII, or one past ASCII. The steps over what holds no markup are wider in bytes.
-fn pieces_by(alloc: Global, text: &[char], bytes: &[u8]) -> Result<Vec<Piece>, AllocError>
+fn pieces_by(text: &[char], bytes: &[u8], mut pieces: Vec<Piece>) -> Result<Vec<Piece>, AllocError>
     requires { AreBytesOf text.now bytes.now }
     ensures { IfOk result (λ pieces. IsPieces false text.now 0 pieces.items) }
 {
-    // Prose has less than a piece for each 32 characters, and a short text with markup mostly three or four.
-    let mut pieces = Vec::with_capacity(alloc, text.len() / 32 + 4)?;
+    pieces.clear();
     let mut from = 0;
     let mut place = 0;
     let mut escaped = false;
@@ -194,10 +199,10 @@ fn piece_or_address(
 }
 
 /// The pieces of a text, with addresses. Each word is looked at: few texts hold an `@`.
-fn pieces_and_addresses(alloc: Global, text: &[char]) -> Result<Vec<Piece>, AllocError>
+fn pieces_and_addresses(text: &[char], mut pieces: Vec<Piece>) -> Result<Vec<Piece>, AllocError>
     ensures { IfOk result (λ pieces. IsPieces true text.now 0 pieces.items) }
 {
-    let mut pieces = Vec::with_capacity(alloc, text.len() / 32 + 4)?;
+    pieces.clear();
     let mut from = 0;
     let mut place = 0;
     let mut escaped = false;

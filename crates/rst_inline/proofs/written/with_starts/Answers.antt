@@ -10,9 +10,9 @@ loop-at-init c =
     let first = c.into_iter-at-iterator.ensures.into_iter_gives in
     let rest = ap (λ i. i.rest.now) first ∙ c.char_indices-at-items.ensures.rest in
     record {
-      split = Split-start _ _ _ _ _ c.utf8.text c.in_ok-characters-2.ensures.items c.in_ok-starts.ensures.items rest (ap (λ i. i.at) first ∙ c.char_indices-at-items.ensures.offset);
-      characters = omega (arith, c.in_ok-characters-2.ensures.len, c.in_ok-characters-2.ensures.capacity, ap length rest);
-      starts = omega (arith, c.in_ok-starts.ensures.len, c.in_ok-starts.ensures.capacity, ap length rest);
+      split = Split-start _ _ _ _ _ c.utf8.text (c.reserve.ensures.items ∙ c.clear-2.ensures.items) (c.reserve-2.ensures.items ∙ c.clear.ensures.items) rest (ap (λ i. i.at) first ∙ c.char_indices-at-items.ensures.offset);
+      characters = omega (arith, c.clear-2.ensures.len, c.reserve.ensures.len, c.in_ok-reserve.ensures.ok, ap length rest);
+      starts = omega (arith, c.clear.ensures.len, c.reserve-2.ensures.len, c.in_ok-reserve-2.ensures.ok, ap length rest);
     }
 
 pub loop-at-preserved : goal.loop-at-preserved

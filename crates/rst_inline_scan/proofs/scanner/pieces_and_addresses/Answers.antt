@@ -14,7 +14,7 @@ loop-place-init c = record {
   scanned = scanned-none true c.args.text.now 0 (omega arith);
   known = c.of-missing.ensures;
   searched = λ i above below. absurd (omega arith);
-  gathered = λ ps h. subst (λ items. IsPieces true c.args.text.now 0 (items ++ ps)) (sym c.in_ok-pieces.ensures.items) h;
+  gathered = λ ps h. subst (λ items. IsPieces true c.args.text.now 0 (items ++ ps)) (sym c.clear.ensures.items) h;
 }
 
 pub loop-place-preserved-in-Some : goal.loop-place-preserved-in-Some

@@ -14,7 +14,7 @@ pub loop-place-init : goal.loop-place-init
 loop-place-init c = record {
   scanned = scanned-none false c.args.text.now 0 (omega arith);
   known = c.of-missing.ensures;
-  gathered = λ ps h. subst (λ items. IsPieces false c.args.text.now 0 (items ++ ps)) (sym c.in_ok-pieces.ensures.items) h;
+  gathered = λ ps h. subst (λ items. IsPieces false c.args.text.now 0 (items ++ ps)) (sym c.clear.ensures.items) h;
 }
 
 pub step-start-requires : goal.step-start-requires
