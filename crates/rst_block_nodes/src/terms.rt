@@ -40,7 +40,7 @@ pub fn term_and_classifiers(
     ensures read { IfOk result (λ made. termed parts.now (chars text.now) line numbers.old ≡ Ok ((made.heads.items, made.notes.items), numbers.new)) }
 {
     let characters = characters_of(alloc, text)?;
-    let pieces = pieces_of(alloc, parts.mail, &characters)?;
+    let pieces = pieces_of(alloc, parts.mail, parts.unmarked, &characters)?;
     let plain = plain_parts(alloc, &characters, &pieces)?;
     let first = numbers.given();
     let Pieces { nodes, notes } = inline_from(alloc, parts, text, line, first)?;
