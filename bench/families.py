@@ -307,5 +307,10 @@ FAMILIES = {
     "one long word that isn't ASCII, and a colon": lambda n: "é" * n + ":\n",
     "emphasis in text that isn't ASCII": lambda n: lines(n, "été *là* "),
     "one long URI": lambda n: "http://" + "a/" * n + "\n",
+    "schemes before colons": lambda n: "http:" * n + "\n",
+    "schemes after dashes, and a letter that isn't ASCII": lambda n: "go:-" * n + "é\n",
+    "letters before colons": lambda n: "a:" * n + "\n",
+    "one long URI that may not end": lambda n: "http:" + "-," * n + "é\n",
+    "one long URI with a long query that may not end": lambda n: "http:a?" + "-" * n + "#" + "-" * n + "é\n",
     "backslashes": lambda n: "\\" * n + "\n",
 }

@@ -1,4 +1,4 @@
-"""Worked examples of the wider profile: roles, e-mail addresses, and roles at the beginning of a line. scripts/wider.py joins them."""
+"""Worked examples of the wider profile: roles, URIs, e-mail addresses, and roles at the beginning of a line. scripts/wider.py joins them."""
 
 # A name, a text, and its tree and messages.
 INLINE = [
@@ -123,6 +123,47 @@ INLINE = [
         <reference refuri="mailto:me@example.org">
             me@example.org
         .
+""",
+        "",
+    ),
+    (
+        "URIs of registered schemes",
+        "ssh://x.org, (urn:isbn:0451450523) and http:a.\n",
+        """\
+<document source="<stdin>">
+    <paragraph>
+        <reference refuri="ssh://x.org">
+            ssh://x.org
+        , (
+        <reference refuri="urn:isbn:0451450523">
+            urn:isbn:0451450523
+        ) and 
+        <reference refuri="http:a">
+            http:a
+        .
+""",
+        "",
+    ),
+    (
+        "where a URI ends",
+        "http://a.b/c- <http://a.b/c.> http://a.b/c<d> http://a.b/c?d=e#f and http://a.b/\\*x\n",
+        """\
+<document source="<stdin>">
+    <paragraph>
+        <reference refuri="http://a.b/c">
+            http://a.b/c
+        - <
+        <reference refuri="http://a.b/c.">
+            http://a.b/c.
+        > 
+        <reference refuri="http://a.b">
+            http://a.b
+        /c<d> 
+        <reference refuri="http://a.b/c?d=e#f">
+            http://a.b/c?d=e#f
+         and 
+        <reference refuri="http://a.b/*x">
+            http://a.b/*x
 """,
         "",
     ),

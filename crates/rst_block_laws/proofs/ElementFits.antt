@@ -29,7 +29,7 @@ module _ (P : ℕ → Bool) (T : List ℕ → Type 0) (s : Suited P T) where
   -- ---- texts with markup
 
   pub read_fit : (parts : Parts) (t : List ℕ) (line first : ℕ) → Kept P t → AllFit T 3 (read_nodes parts t line first)
-  read_fit parts t line first h = text_fits P T s parts t line first (pieces_of parts.mail t) h
+  read_fit parts t line first h = text_fits P T s parts t line first (pieces_of parts.mail parts.unmarked t) h
 
   pub texted_fits : (parts : Parts) (tag : Tag) (line : ℕ) (t : List ℕ) (text_line first : ℕ) → Open tag → Kept P t → Fits T 4 (texted_node parts tag line t text_line first)
   texted_fits parts tag line t text_line first any h = open_fits T tag _ line 3 4 _ any (counting_has T (length (read_notes parts t text_line first))) (read_fit parts t text_line first h) (omega arith)

@@ -49,7 +49,7 @@ use Rattle.rst_block_laws.proofs.ElementFits.{preserved_fits}
 -- where they may have so many levels
 module _ (P : ℕ → Bool) (T : List ℕ → Type 0) (s : Suited P T) (j : ℕ) (some : 3 ≤ j) where
   pub read_notes_fit : (parts : Parts) (t : List ℕ) (line first : ℕ) → Kept P t → AllFit T j (read_notes parts t line first)
-  read_notes_fit parts t line first h = by first (notes_of parts t line (pieces_of parts.mail t)) (notes_have P T s parts t line (pieces_of parts.mail t) h)
+  read_notes_fit parts t line first h = by first (notes_of parts t line (pieces_of parts.mail parts.unmarked t)) (notes_have P T s parts t line (pieces_of parts.mail parts.unmarked t) h)
     where
       by : (first : ℕ) (notes : List Note) → NotesHave T notes → AllFit T j (messages_from first notes)
       by first [] h = tt

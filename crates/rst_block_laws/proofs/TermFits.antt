@@ -92,4 +92,4 @@ module _ (P : ℕ → Bool) (T : List ℕ → Type 0) (s : Suited P T) where
 
   pub terms_fit : (parts : Parts) (t : List ℕ) (line first : ℕ) → Kept P t → AllFit T 4 (term_nodes parts t line first)
   terms_fit parts t line first h =
-      heads_fit (length (read_notes parts t line first)) line _ (groups_fit _ (parts_fit (parts_of_pieces t (pieces_of parts.mail t)) (read_nodes parts t line first) (pieces_fit t (pieces_of parts.mail t) h) (read_fit P T s parts t line first h)))
+      heads_fit (length (read_notes parts t line first)) line _ (groups_fit _ (parts_fit (parts_of_pieces t (pieces_of parts.mail parts.unmarked t)) (read_nodes parts t line first) (pieces_fit t (pieces_of parts.mail parts.unmarked t) h) (read_fit P T s parts t line first h)))

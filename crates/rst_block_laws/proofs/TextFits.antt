@@ -172,7 +172,7 @@ module _ (P : ℕ → Bool) (T : List ℕ → Type 0) (s : Suited P T) (parts : 
       kind_fits (Marked Emphasis suffix) = one IsEmphasis _ shown
       kind_fits Label = ((label_fits (content t p) within, tt), tt)
       kind_fits (Reference suffix) = ((reference_fits suffix _ _ within within, tt), tt)
-      kind_fits Uri = link_fits (source t p) _ whole
+      kind_fits Uri = link_fits (unescaped (source t p)) _ (unescaped_kept P _ whole)
       kind_fits Address = link_fits (uri_of_address (unescaped (source t p))) _ (unescaped_kept P _ whole)
       kind_fits (Unended Strong) = wrong Warning _ (fixed_has P T s _ refl)
       kind_fits (Unended _) = wrong Warning _ (fixed_has P T s _ refl)

@@ -11,11 +11,11 @@ use Rattle.rst_block_nodes.specs.Terms.{parts_of_pieces, groups_of, heads_of}
 use Rattle.rst_block_nodes.specs.Texts.{messages_from}
 use Rattle.rst_block_nodes.specs.declared.terms.Heads.{Heads}
 
-pub headed_text : (parts : Parts) (text cs ds : List ℕ) (line first notes : ℕ) (pieces qs : List Piece) (reading : Pieces) (texts : List (List (Option Node))) (nodes : List Node) (made : Heads) → cs ≡ text → ds ≡ text → qs ≡ pieces → IsPieces parts.mail cs 0 pieces → IsRead parts text line first reading → texts ≡ parts_of_pieces ds qs → notes ≡ length made.notes.items → nodes ≡ reading.nodes.items → made.heads.items ≡ heads_of notes line (groups_of texts nodes) → made.notes.items ≡ messages_from first reading.notes.items → HeadsText parts text line first made
+pub headed_text : (parts : Parts) (text cs ds : List ℕ) (line first notes : ℕ) (pieces qs : List Piece) (reading : Pieces) (texts : List (List (Option Node))) (nodes : List Node) (made : Heads) → cs ≡ text → ds ≡ text → qs ≡ pieces → IsPieces parts.mail parts.unmarked cs 0 pieces → IsRead parts text line first reading → texts ≡ parts_of_pieces ds qs → notes ≡ length made.notes.items → nodes ≡ reading.nodes.items → made.heads.items ≡ heads_of notes line (groups_of texts nodes) → made.notes.items ≡ messages_from first reading.notes.items → HeadsText parts text line first made
 headed_text parts text cs ds line first notes pieces qs reading texts nodes made same alike listed are read those many all heads messages = (
   pieces,
   reading,
-  subst (λ t. IsPieces parts.mail t 0 pieces) same are,
+  subst (λ t. IsPieces parts.mail parts.unmarked t 0 pieces) same are,
   read,
   record {
     heads = heads ∙ ap (λ n. heads_of n line (groups_of texts nodes)) many

@@ -19,7 +19,7 @@ use Rattle.rst_block_nodes.specs.Texts.{counting, messages_from}
 
 reading_is : (parts : Parts) (t : List ℕ) (line first : ℕ) (r : Pieces) → IsRead parts t line first r → (r.nodes.items ≡ read_nodes parts t line first) × (messages_from first r.notes.items ≡ read_notes parts t line first)
 reading_is parts t line first r h =
-    let same : h.0 ≡ pieces_of parts.mail t = pieces_of-only parts.mail t h.0 h.1 in (
+    let same : h.0 ≡ pieces_of parts.mail parts.unmarked t = pieces_of-only parts.mail parts.unmarked t h.0 h.1 in (
       h.2.nodes ∙ ap (nodes_from parts t line first) same,
       ap (messages_from first) (h.2.notes ∙ ap (notes_of parts t line) same),
     )
@@ -41,7 +41,7 @@ termed-is parts t line first made h =
       h.4.heads
           ∙ ap (λ (ns : List Node). heads_of (length ns) line (groups_of (parts_of_pieces t h.0) h.1.nodes.items)) (h.4.notes ∙ r.1)
           ∙ ap (λ (xs : List Node). heads_of (length (read_notes parts t line first)) line (groups_of (parts_of_pieces t h.0) xs)) r.0
-          ∙ ap (λ (ps : List Piece). heads_of (length (read_notes parts t line first)) line (groups_of (parts_of_pieces t ps) (read_nodes parts t line first))) (pieces_of-only parts.mail t h.0 h.2),
+          ∙ ap (λ (ps : List Piece). heads_of (length (read_notes parts t line first)) line (groups_of (parts_of_pieces t ps) (read_nodes parts t line first))) (pieces_of-only parts.mail parts.unmarked t h.0 h.2),
       h.4.notes ∙ r.1,
     )
 

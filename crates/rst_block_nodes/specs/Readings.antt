@@ -18,11 +18,11 @@ use Rattle.rst_block_nodes.specs.Texts.{counting, messages_from}
 
 -- the nodes of a text, where the messages on it are numbered from `first` on
 abbrev pub read_nodes : Parts → List ℕ → ℕ → ℕ → List Node
-read_nodes parts t line first = nodes_from parts t line first (pieces_of parts.mail t)
+read_nodes parts t line first = nodes_from parts t line first (pieces_of parts.mail parts.unmarked t)
 
 -- the messages on a text, which are numbered from `first` on and have the number of this line
 abbrev pub read_notes : Parts → List ℕ → ℕ → ℕ → List Node
-read_notes parts t line first = messages_from first (notes_of parts t line (pieces_of parts.mail t))
+read_notes parts t line first = messages_from first (notes_of parts t line (pieces_of parts.mail parts.unmarked t))
 
 -- an element of this line that holds a text, whose first line is `text_line`
 abbrev pub texted_node : Parts → Tag → ℕ → List ℕ → ℕ → ℕ → Node
@@ -30,7 +30,7 @@ texted_node parts tag line t text_line first = element_of tag (counting (length 
 
 -- the elements of a term and of its classifiers, which are the parts of one text
 abbrev pub term_nodes : Parts → List ℕ → ℕ → ℕ → List Node
-term_nodes parts t line first = heads_of (length (read_notes parts t line first)) line (groups_of (parts_of_pieces t (pieces_of parts.mail t)) (read_nodes parts t line first))
+term_nodes parts t line first = heads_of (length (read_notes parts t line first)) line (groups_of (parts_of_pieces t (pieces_of parts.mail parts.unmarked t)) (read_nodes parts t line first))
 
 -- an element of this line that holds a text, whose first line is `text_line`, and the messages on the text, which have that line's number
 abbrev pub texted : Parts → Tag → ℕ → List ℕ → ℕ → Numbered (Node × List Node)

@@ -28,4 +28,4 @@ pub record AreHeadsOf (text : List ℕ) (pieces : List Piece) (line first : ℕ)
 
 -- those of a text, whose pieces are exactly one list
 abbrev pub HeadsText : Parts → List ℕ → ℕ → ℕ → Heads → Type 0
-HeadsText parts text line first made = (pieces : List Piece) × (read : Pieces) × IsPieces parts.mail text 0 pieces × IsRead parts text line first read × AreHeadsOf text pieces line first read made
+HeadsText parts text line first made = (pieces : List Piece) × (read : Pieces) × IsPieces parts.mail parts.unmarked text 0 pieces × IsRead parts text line first read × AreHeadsOf text pieces line first read made

@@ -40,7 +40,13 @@ pub fn term_and_classifiers(
     ensures read { IfOk result (λ made. termed parts.now (chars text.now) line numbers.old ≡ Ok ((made.heads.items, made.notes.items), numbers.new)) }
 {
     let characters = characters_of(alloc, text)?;
-    let pieces = pieces_of(alloc, parts.mail, &characters, Vec::new(alloc))?;
+    let pieces = pieces_of(
+        alloc,
+        parts.mail,
+        parts.unmarked,
+        &characters,
+        Vec::new(alloc),
+    )?;
     let plain = plain_parts(alloc, &characters, &pieces)?;
     let first = numbers.given();
     let Pieces { nodes, notes } = numbers.inline(alloc, parts, text, line)?;

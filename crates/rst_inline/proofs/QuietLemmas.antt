@@ -38,4 +38,4 @@ quiet-notes parts (c ∷ cs) line h = sym (ap (λ m. notes_by m line ++ []) (rea
 -- what was read of a quiet text
 pub quiet-read : (parts : Parts) (t : Text) (line first : ℕ) (read : Pieces) → quiet parts.mail t ≡ true → read.nodes.items ≡ nodes_of (text_children t) → read.notes.items ≡ [] → IsRead parts t line first read
 quiet-read parts t line first read h nodes notes =
-    (whole t, quiet-pieces parts.mail t h, record { nodes = nodes ∙ quiet-nodes parts t line first h; notes = notes ∙ quiet-notes parts t line h })
+    (whole t, quiet-pieces parts.mail parts.unmarked t h, record { nodes = nodes ∙ quiet-nodes parts t line first h; notes = notes ∙ quiet-notes parts t line h })

@@ -48,9 +48,9 @@ reference_node suffix source display_text name line = text_element Reference (re
 abbrev pub link_node : Text → Text → Text → ℕ → Node
 link_node source uri display_text line = text_element Reference (attr Rawsource (text_value source) ∷ attr Refuri (text_value uri) ∷ []) display_text line
 
--- a standalone URI
-abbrev pub uri_node : Text → ℕ → Node
-uri_node source line = link_node source source source line
+-- a standalone URI, without its escapes
+abbrev pub uri_node : Text → Text → ℕ → Node
+uri_node source uri line = link_node source uri uri line
 
 -- an e-mail address, which is shown without its escapes
 abbrev pub address_node : Text → Text → ℕ → Node

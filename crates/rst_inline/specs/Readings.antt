@@ -150,7 +150,7 @@ reading_by parts (Marked Interpreted suffix) t p line = interpreted_reading part
 reading_by parts (Unended markup) t p line = Wrong Warning (phrase_text (unended_phrase markup))
 reading_by parts Label t p line = One (label_reference_node (source t p) (content t p) line)
 reading_by parts (Reference suffix) t p line = One (reference_node suffix (source t p) (content t p) (content t p) line)
-reading_by parts Uri t p line = One (uri_node (source t p) line)
+reading_by parts Uri t p line = One (uri_node (source t p) (unescaped (source t p)) line)
 reading_by parts Address t p line = One (address_node (source t p) (unescaped (source t p)) line)
 
 -- what a piece means

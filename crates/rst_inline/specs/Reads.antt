@@ -42,7 +42,7 @@ printed_lines parts t pieces = lines_of_all 0 (forest_of (nodes_from parts t 1 0
 
 -- a text means the nodes, and then the messages, that these lines show
 abbrev pub ShowsBy : Parts → String → List String → Type 0
-ShowsBy parts text lines = printed (printed_lines parts (codes text) (pieces_of parts.mail (codes text))) ≡ encode_utf8_all (written lines)
+ShowsBy parts text lines = printed (printed_lines parts (codes text) (pieces_of parts.mail parts.unmarked (codes text))) ≡ encode_utf8_all (written lines)
 
 -- so it does in the base
 abbrev pub Shows : String → List String → Type 0

@@ -49,4 +49,4 @@ pub record AreReadFromPieces (parts : Parts) (t : Text) (line first : ℕ) (piec
 
 -- They are those of the pieces of the text, of which there is exactly one list.
 abbrev pub IsRead : Parts → Text → ℕ → ℕ → Pieces → Type 0
-IsRead parts t line first read = (pieces : List Piece) × IsPieces parts.mail t 0 pieces × AreReadFromPieces parts t line first pieces read
+IsRead parts t line first read = (pieces : List Piece) × IsPieces parts.mail parts.unmarked t 0 pieces × AreReadFromPieces parts t line first pieces read

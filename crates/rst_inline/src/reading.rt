@@ -381,13 +381,13 @@ impl Written<'_> {
         Ok(Meaning::One(node))
     }
 
-    /// A standalone URI.
+    /// A standalone URI, without its escapes.
     #[inline(never)]
     fn uri(&self, piece: Piece) -> Result<Meaning>
-        ensures { IfOk result (λ reading. reading ≡ One (uri_node (source self.now.characters.items piece) self.now.line)) }
+        ensures { IfOk result (λ reading. let source = source self.now.characters.items piece in reading ≡ One (uri_node source (unescaped source) self.now.line)) }
     {
-        let source = self.part(piece.from, piece.to);
-        self.link(piece, source, source)
+        let uri = self.unescaped(piece.from, piece.to)?;
+        self.link(piece, uri.as_str(), uri.as_str())
     }
 
     /// An e-mail address.

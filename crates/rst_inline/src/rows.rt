@@ -99,7 +99,7 @@ pub fn markup()
     ensures backslash_alone { Shows "\\" [] }
     ensures two_lines { Shows "*a\nb* c\nd" ("<emphasis>" ∷ "    a" ∷ "    b" ∷ " c" ∷ "d" ∷ []) }
     ensures target { Shows "_`A  b\\_`" ("<target inline=\"1\" own_name=\"a b_\">" ∷ "    A  b_" ∷ []) }
-    ensures line { nodes_from no_parts (codes "*a*") 7 0 (pieces_of false (codes "*a*")) ≡ Element Emphasis [] (words (codes "a") bare) 7 ∷ [] }
+    ensures line { nodes_from no_parts (codes "*a*") 7 0 (pieces_of false false (codes "*a*")) ≡ Element Emphasis [] (words (codes "a") bare) 7 ∷ [] }
 {}
 
 /// References by a name and by a phrase (Markup Specification, 'Hyperlink References').
@@ -143,6 +143,13 @@ pub fn embedded()
         ∷ []) }
     ensures angle_inside { Shows "`a <>>`_"
         ("<reference name=\"a\" rawsource=\"`a <>>`_\" refuri=\">\">" ∷ "    a" ∷ "<target inline=\"1\" own_name=\"a\" refuri=\">\">" ∷ []) }
+{}
+
+/// URIs of registered schemes (Markup Specification, 'Standalone Hyperlinks').
+pub fn registered_uris()
+    ensures alone { ShowsWider "to ssh://x.org-" ("to " ∷ "<reference rawsource=\"ssh://x.org\" refuri=\"ssh://x.org\">" ∷ "    ssh://x.org" ∷ "-" ∷ []) }
+    ensures escaped { ShowsWider "http:/\\*x" ("<reference rawsource=\"http:/\\*x\" refuri=\"http:/*x\">" ∷ "    http:/*x" ∷ []) }
+    ensures base { Shows "http:a ssh://x" ("http:a ssh://x" ∷ []) }
 {}
 
 /// E-mail addresses, alone and in phrases (Markup Specification, 'Standalone Hyperlinks').
@@ -217,5 +224,5 @@ pub fn messages()
         ("<problematic message=\"0\">" ∷ "    :sub:`a`_" ∷ "WARNING: Mismatch: both interpreted text role and reference suffix." ∷ []) }
     ensures anonymous_mismatch { Shows ":sub:`a`__"
         ("<problematic message=\"0\">" ∷ "    :sub:`a`__" ∷ "WARNING: Mismatch: both interpreted text role and reference suffix." ∷ []) }
-    ensures line { map (λ note. note.line) (notes_of no_parts (codes "a\n*b") 7 (pieces_of false (codes "a\n*b"))) ≡ 7 ∷ [] }
+    ensures line { map (λ note. note.line) (notes_of no_parts (codes "a\n*b") 7 (pieces_of false false (codes "a\n*b"))) ≡ 7 ∷ [] }
 {}

@@ -102,17 +102,24 @@ impl<'a> Written<'a> {
 
     /// The pieces of the text.
     pub(crate) fn pieces(&self, pieces: Vec<Piece>) -> Result<Vec<Piece>, AllocError>
-        ensures { IfOk result (λ pieces. IsPieces self.now.parts.now.mail self.now.characters.items 0 pieces.items) }
+        ensures { IfOk result (λ pieces. IsPieces self.now.parts.now.mail self.now.parts.now.unmarked self.now.characters.items 0 pieces.items) }
     {
         if self.starts.is_empty() {
             pieces_of_ascii(
                 self.parts.mail,
+                self.parts.unmarked,
                 &self.characters,
                 self.text.as_bytes(),
                 pieces,
             )
         } else {
-            pieces_of(self.alloc, self.parts.mail, &self.characters, pieces)
+            pieces_of(
+                self.alloc,
+                self.parts.mail,
+                self.parts.unmarked,
+                &self.characters,
+                pieces,
+            )
         }
     }
 

@@ -115,11 +115,11 @@ bars-calm t i e order calm last = record {
   letter = λ inside. (last inside).letter;
 }
 
-none-calm : (t : Text) (begin from to i : ℕ) → IsCalm t from to → from ≤ i → i < to → piece_at false t begin i ≡ None
+none-calm : (t : Text) (begin from to i : ℕ) → IsCalm t from to → from ≤ i → i < to → piece_at false false t begin i ≡ None
 none-calm t begin from to i run above less =
     let calm : AreCalm t i to = λ k more below. run.calm k (omega arith) below in
     let here = loose t i (calm i (omega arith) less) in
-    let none : (e : ℕ) → IsBarred t i e → piece_at false t begin i ≡ None = λ e bar. no-piece-barred t begin i e bar
+    let none : (e : ℕ) → IsBarred t i e → piece_at false false t begin i ≡ None = λ e bar. no-piece-barred t begin i e bar
     (unmarked t i (absent is_loose t i 42 here refl) (absent is_loose t i 96 here refl) (calm-target t i (calm i (omega arith) less)) (absent is_loose t i 124 here refl) (absent is_loose t i 58 here refl))
     (no-label t i (absent is_loose t i 91 here refl)) in
     ⊎_elim
@@ -166,7 +166,7 @@ calm-same t bytes from to of run =
 
 -- ---- steps
 
-pub calm-scanned : (t bytes : Text) (from place to : ℕ) (escaped : Bool) → AreBytesOf t bytes → IsCalm bytes place to → IsScanned false t from place escaped → IsScanned false t from to (escaped && place == to)
+pub calm-scanned : (t bytes : Text) (from place to : ℕ) (escaped : Bool) → AreBytesOf t bytes → IsCalm bytes place to → IsScanned false false t from place escaped → IsScanned false false t from to (escaped && place == to)
 calm-scanned t bytes from place to escaped of calm known =
     let run = calm-same t bytes place to of calm in
     record {

@@ -4,9 +4,12 @@ pub mod NameLemmas
 pub mod MarkedLemmas
 pub mod MissingLemmas
 pub mod UriLemmas
+pub mod RunLemmas
+pub mod WordLemmas
+pub mod RegisteredLemmas
 pub mod MailLemmas
 pub mod PieceLemmas
-pub mod WordLemmas
+pub mod AskedLemmas
 pub mod CalmLemmas
 pub mod QuietLemmas
 pub mod ReadingLemmas

@@ -14,49 +14,14 @@ use Rattle.rst_text.specs.Places.{first_from, last_from, IsFirst, IsLast}
 use Rattle.rst_text.proofs.PlacesLemmas.{first_from-is, first_from-IsFirst, last_from-is, last_from-last}
 use Rattle.rst_text.proofs.Choices.{chosen}
 use Rattle.rst_text.specs.Characters.{Text, has}
-use Rattle.rst_inline_scan.specs.Mail.{holds_at_sign, is_address_char, is_address_last, is_address_at, is_in_user, user_stop, has_at_sign, is_in_host, host_stop, ends_host, host_end, after_user, address_end, address_piece, address, is_whole, is_address}
-use Rattle.rst_inline_scan.specs.Pieces.{markup_from, is_free_address, address_from, piece_at, IsPlain, IsPieces, nothing, last, other, plain}
+use Rattle.rst_inline_scan.specs.Registered.{ends_link}
+use Rattle.rst_inline_scan.specs.Mail.{holds_at_sign, is_address_char, is_address_at, is_in_user, user_stop, has_at_sign, is_in_host, host_stop, host_end, after_user, address_end, address_piece, address, is_whole, is_address}
 use Rattle.rst_inline_scan.specs.declared.piece.Piece.{Piece}
 use Rattle.rst_inline_scan.proofs.FitLemmas.{Fit, Fit-none, Fit-some}
+use Rattle.rst_inline_scan.proofs.RunLemmas.{Runs, run-stop, run-of, run-later}
+use Rattle.rst_inline_scan.proofs.RegisteredLemmas.{has-past, ends_link-past}
 
--- ---- runs
-
--- each place from one up to another passes, and the other, if it is before the limit, does not
-pub record Runs (p : ℕ → Bool) (i n stop : ℕ) : Type 0 where
-  pub above : i ≤ stop
-  pub within : stop ≤ n
-  pub pass : (k : ℕ) → i ≤ k → k < stop → p k ≡ true
-  pub stops : stop < n → p stop ≡ false
-
-abbrev stop_of : (ℕ → Bool) → ℕ → ℕ → ℕ
-stop_of p i n = unwrap_or (first_from (λ k. not (p k)) i (n - i)) n
-
-run-stop : (p : ℕ → Bool) (i n stop : ℕ) → Runs p i n stop → stop ≡ stop_of p i n
-run-stop p i n stop run = ⊎_elim
-    (λ less. ap (λ r. unwrap_or r n) (first_from-is (λ k. not (p k)) i n (Some stop) (run.above, less, ap not (run.stops less), λ k above below. ap not (run.pass k above below))))
-    (λ end.
-    let within = run.within in
-    let same : stop ≡ n = omega arith in
-    same ∙ ap (λ r. unwrap_or r n) (first_from-is (λ k. not (p k)) i n None (λ k above below. ap not (run.pass k above (omega arith)))))
-    (cases_lt stop n)
-
-passes : (b : Bool) → not b ≡ false → b ≡ true
-passes true h = refl
-passes false h = absurd (true≢false h)
-
-fails : (b : Bool) → not b ≡ true → b ≡ false
-fails true h = absurd (true≢false (sym h))
-fails false h = refl
-
-run-by : (p : ℕ → Bool) (i n high : ℕ) (r : Option ℕ) → i ≤ n → high ≡ n → IsFirst (λ k. not (p k)) i high r → Runs p i n (unwrap_or r n)
-run-by p i n high (Some s) h e f = record { above = f.0; within = (let less = f.1 in omega arith); pass = λ k above below. passes (p k) (f.3 k above below); stops = λ less. fails (p s) f.2 }
-run-by p i n high None h e f = record { above = h; within = omega arith; pass = λ k above below. passes (p k) (f k above (omega arith)); stops = λ less. absurd (omega arith) }
-
-run-of : (p : ℕ → Bool) (i n : ℕ) → i ≤ n → Runs p i n (stop_of p i n)
-run-of p i n h = run-by p i n (i + (n - i)) (first_from (λ k. not (p k)) i (n - i)) h (omega arith) (first_from-IsFirst (λ k. not (p k)) i (n - i))
-
-run-later : (p : ℕ → Bool) (i k n stop : ℕ) → Runs p i n stop → i ≤ k → k ≤ stop → Runs p k n stop
-run-later p i k n stop run above below = record { above = below; within = run.within; pass = λ j low high. run.pass j (omega arith) high; stops = run.stops }
+-- ---- the runs
 
 pub user_stop-is : (t : Text) (i stop : ℕ) → Runs (is_in_user t) i (length t) stop → stop ≡ user_stop t i
 unfolding user_stop
@@ -72,9 +37,6 @@ host_stop-is t i stop run = run-stop (is_in_host t) i (length t) stop run
 
 -- ---- past the end
 
-pub has-past : (t : Text) (k c : ℕ) → length t ≤ k → has t k c ≡ false
-has-past t k c past = ap (λ b. b && get_or t k 0 == c) (le-ltb k (length t) past)
-
 none-zero : is_address_char 0 ≡ false
 unfolding is_address_char
 none-zero = refl
@@ -85,32 +47,23 @@ is_address_at-past t k past = ap₂ (λ a b. a || b) (ap is_address_char (get_or
 pub is_in_host-past : (t : Text) (k : ℕ) → length t ≤ k → is_in_host t k ≡ false
 is_in_host-past t k past = ap₂ (λ a b. a || b) (is_address_at-past t k past) (has-past t k 46 past)
 
-no-last : is_address_last 0 ≡ false
-unfolding is_address_last
-no-last = refl
-
-pub ends_host-past : (t : Text) (e : ℕ) → length t < e → ends_host t e ≡ false
-unfolding ends_host
-ends_host-past t e past =
-    and_left _ _ (ap₂ (λ a b. a || b) (ap is_address_last (get_or_past t (e - 1) 0 (omega arith)) ∙ no-last) (and_left _ _ (has-past t e 62 (omega arith))))
-
 -- ---- the host
 
-pub host_end-is : (t : Text) (i stop : ℕ) (r : Option ℕ) → is_address_at t i ≡ true → stop ≡ host_stop t i → IsLast (ends_host t) (i + 2) (stop + 2) r → r ≡ host_end t i
+pub host_end-is : (t : Text) (i stop : ℕ) (r : Option ℕ) → is_address_at t i ≡ true → stop ≡ host_stop t i → IsLast (ends_link t) (i + 2) (stop + 2) r → r ≡ host_end t i
 unfolding host_end
 host_end-is t i stop r begins same h =
     let many : stop + 2 - (i + 2) ≡ stop - i = omega arith in
-    rw begins (subst (λ n. r ≡ last_from (ends_host t) (i + 2) n) (many ∙ ap (λ s. s - i) same) (last_from-is (ends_host t) (i + 2) (stop + 2) r h))
+    rw begins (subst (λ n. r ≡ last_from (ends_link t) (i + 2) n) (many ∙ ap (λ s. s - i) same) (last_from-is (ends_link t) (i + 2) (stop + 2) r h))
 
-last-within : (t : Text) (i n e : ℕ) → last_from (ends_host t) (i + 2) n ≡ Some e → (i + 2 ≤ e) × (e ≤ length t)
+last-within : (t : Text) (i n e : ℕ) → last_from (ends_link t) (i + 2) n ≡ Some e → (i + 2 ≤ e) × (e ≤ length t)
 last-within t i n e h =
     let many : i + 2 + n - (i + 2) ≡ n = omega arith in
-    let found : IsLast (ends_host t) (i + 2) (i + 2 + n) (Some e) = subst (IsLast (ends_host t) (i + 2) (i + 2 + n)) (ap (last_from (ends_host t) (i + 2)) many ∙ h) (last_from-last (ends_host t) (i + 2) (i + 2 + n) (omega arith)) in
-    (found.0, ⊎_elim (λ past. absurd (true≢false (sym found.2 ∙ ends_host-past t e past))) (λ within. within) (cases_lt (length t) e))
+    let found : IsLast (ends_link t) (i + 2) (i + 2 + n) (Some e) = subst (IsLast (ends_link t) (i + 2) (i + 2 + n)) (ap (last_from (ends_link t) (i + 2)) many ∙ h) (last_from-last (ends_link t) (i + 2) (i + 2 + n) (omega arith)) in
+    (found.0, ⊎_elim (λ past. absurd (true≢false (sym found.2 ∙ ends_link-past t e past))) (λ within. within) (cases_lt (length t) e))
 
 pub host_end-fits : (t : Text) (i e : ℕ) → host_end t i ≡ Some e → (i + 2 ≤ e) × (e ≤ length t)
 unfolding host_end
-host_end-fits t i e h = last-within t i (host_stop t i - i) e (chosen (is_address_at t i) (last_from (ends_host t) (i + 2) (host_stop t i - i)) e h).1
+host_end-fits t i e h = last-within t i (host_stop t i - i) e (chosen (is_address_at t i) (last_from (ends_link t) (i + 2) (host_stop t i - i)) e h).1
 
 -- ---- the whole
 
@@ -164,7 +117,7 @@ no-end : (t : Text) (i : ℕ) → holds_at_sign t ≡ false → address_end t i 
 unfolding address_end
 no-end t i h = cond_both (is_address_at t i) (after_user t (user_stop t i)) None (λ r. r ≡ None) (λ yes. no-user t (user_stop t i) h) (λ no. refl)
 
-no-address : (t : Text) (i : ℕ) → holds_at_sign t ≡ false → address t i ≡ None
+pub no-address : (t : Text) (i : ℕ) → holds_at_sign t ≡ false → address t i ≡ None
 unfolding address
 no-address t i h = ap (option_map (address_piece i)) (no-end t i h)
 
@@ -172,32 +125,6 @@ no-address t i h = ap (option_map (address_piece i)) (no-end t i h)
 pub no-whole : (t : Text) → holds_at_sign t ≡ false → is_address t ≡ false
 unfolding is_address
 no-whole t h = ap (λ r. not (has_backslash t) && is_whole t r) (no-end t 0 h) ∙ and-false (not (has_backslash t))
-
-no-other : (r s : Option Piece) → s ≡ None → option_or r s ≡ r
-no-other (Some p) s h = refl
-no-other None s h = h
-
-no-address_from : (t : Text) (from i : ℕ) → holds_at_sign t ≡ false → address_from t from i ≡ None
-no-address_from t from i h = cond_both (is_free_address t from i) (address t i) None (λ r. r ≡ None) (λ free. no-address t i h) (λ stuck. refl)
-
-same-piece : (t : Text) (from i : ℕ) → holds_at_sign t ≡ false → piece_at true t from i ≡ piece_at false t from i
-unfolding piece_at
-same-piece t from i h = no-other (markup_from t from i) (address_from t from i) (no-address_from t from i h)
-
-same-plain : (t : Text) (from : ℕ) (p : Piece) → holds_at_sign t ≡ false → IsPlain false t from p → IsPlain true t from p
-same-plain t from p h a = record { is_plain = a.is_plain; some = a.some; within = a.within; none = λ i low high. same-piece t from i h ∙ a.none i low high }
-
--- its pieces are the same where addresses are asked for
-pub same-pieces : (t : Text) (from : ℕ) (ps : List Piece) → holds_at_sign t ≡ false → IsPieces false t from ps → IsPieces true t from ps
-same-pieces t from _ h (nothing end) = nothing end
-same-pieces t from _ h (last p a end) = last p (same-plain t from p h a) end
-same-pieces t from _ h (other p ps begins rest) = other p ps (same-piece t from from h ∙ begins) (same-pieces t p.to ps h rest)
-same-pieces t from _ h (plain p q ps a begins rest) = plain p q ps (same-plain t from p h a) (same-piece t from p.to h ∙ begins) (same-pieces t q.to ps h rest)
-
--- the pieces without addresses are those that are asked for, where no address can be
-pub asked-pieces : (mail : Bool) (t : Text) (ps : List Piece) → (mail ≡ true → holds_at_sign t ≡ false) → IsPieces false t 0 ps → IsPieces mail t 0 ps
-asked-pieces true t ps none h = same-pieces t 0 ps (none refl) h
-asked-pieces false t ps none h = h
 
 -- ---- its bytes
 

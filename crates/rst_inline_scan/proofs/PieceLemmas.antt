@@ -7,7 +7,7 @@ use Rattle.rst_text.specs.Characters.{Text, has, is_alnum_at}
 use Rattle.rst_inline_scan.specs.Characters.{is_free_after}
 use Rattle.rst_text.specs.SimpleNames.{name_stop}
 use Rattle.rst_inline_scan.specs.Footnotes.{label_stop, closes_label, label_piece, label}
-use Rattle.rst_inline_scan.specs.Pieces.{markup_at, is_free, is_free_address, markup_from, address_from, piece_at, HasNoStart, plain_from, IsPlain, IsWithin, IsPieces, nothing, last, other, plain}
+use Rattle.rst_inline_scan.specs.Pieces.{unlinked_at, markup_at, is_free, is_free_link, marked_or_registered, address_from, unaddressed, piece_at, HasNoStart, plain_from, IsPlain, IsWithin, IsPieces, nothing, last, other, plain}
 use Rattle.rst_inline_scan.specs.Marked.{markup_of, marked}
 use Rattle.rst_inline_scan.specs.declared.piece.Markup.{Markup}
 use Rattle.rst_inline_scan.specs.declared.piece.Piece.{Piece}
@@ -16,7 +16,9 @@ use Rattle.rst_text.proofs.Choices.{either, chosen}
 use Rattle.rst_inline_scan.proofs.NameLemmas.{name_stop-fits, reference-fits}
 use Rattle.rst_inline_scan.proofs.MarkedLemmas.{marked-fits}
 use Rattle.rst_inline_scan.specs.Mail.{address}
+use Rattle.rst_inline_scan.specs.Registered.{registered_uri}
 use Rattle.rst_inline_scan.proofs.UriLemmas.{uri-fits}
+use Rattle.rst_inline_scan.proofs.RegisteredLemmas.{registered_uri-fits}
 use Rattle.rst_inline_scan.proofs.MailLemmas.{address-fits}
 
 -- ---- a reference to a footnote
@@ -53,27 +55,38 @@ marked_any-fits : (t : Text) (i : ℕ) (r : Option Markup) → Fit t i (option_a
 marked_any-fits t i (Some markup) = marked-fits markup t i
 marked_any-fits t i None = Fit-none t i
 
+unlinked_at-fits : (t : Text) (i : ℕ) → Fit t i (unlinked_at t i)
+unfolding unlinked_at
+unlinked_at-fits t i = Fit-or t i _ _ (marked_any-fits t i (markup_of t i)) (Fit-or t i _ _ (label-fits t i) (reference-fits t i))
+
 markup_at-fits : (t : Text) (i : ℕ) → i ≤ length t → Fit t i (markup_at t i)
 unfolding markup_at
-markup_at-fits t i within = Fit-or t i _ _ (marked_any-fits t i (markup_of t i)) (Fit-or t i _ _ (label-fits t i) (Fit-or t i _ _ (reference-fits t i) (uri-fits t i within)))
+markup_at-fits t i within = Fit-or t i _ _ (unlinked_at-fits t i) (uri-fits t i within)
 
-markup_from-fits : (t : Text) (from i : ℕ) → i ≤ length t → Fit t i (markup_from t from i)
-markup_from-fits t from i within p h = markup_at-fits t i within p (chosen (is_free t from i) (markup_at t i) p h).1
+-- ---- any piece
+
+chosen-fits : (t : Text) (i : ℕ) (b : Bool) (r : Option Piece) → Fit t i r → Fit t i (cond b r None)
+chosen-fits t i b r fit p h = fit p (chosen b r p h).1
+
+unaddressed-fits : (registered : Bool) (t : Text) (from i : ℕ) → i ≤ length t → Fit t i (unaddressed registered t from i)
+unfolding marked_or_registered
+unaddressed-fits false t from i within = chosen-fits t i (is_free t from i) (markup_at t i) (markup_at-fits t i within)
+unaddressed-fits true t from i within = Fit-or t i _ _ (chosen-fits t i (is_free t from i) (unlinked_at t i) (unlinked_at-fits t i)) (chosen-fits t i (is_free_link t from i) (registered_uri t i) (registered_uri-fits t i))
 
 address_from-fits : (t : Text) (from i : ℕ) → i ≤ length t → Fit t i (address_from t from i)
-address_from-fits t from i within p h = address-fits t i within p (chosen (is_free_address t from i) (address t i) p h).1
+address_from-fits t from i within = chosen-fits t i (is_free_link t from i) (address t i) (address-fits t i within)
 
-pub piece_at-fits : (mail : Bool) (t : Text) (from i : ℕ) (p : Piece) → i ≤ length t → piece_at mail t from i ≡ Some p → Fits t i p
+pub piece_at-fits : (mail registered : Bool) (t : Text) (from i : ℕ) (p : Piece) → i ≤ length t → piece_at mail registered t from i ≡ Some p → Fits t i p
 unfolding piece_at
-piece_at-fits false t from i p within h = markup_from-fits t from i within p h
-piece_at-fits true t from i p within h = Fit-or t i (markup_from t from i) (address_from t from i) (markup_from-fits t from i within) (address_from-fits t from i within) p h
+piece_at-fits false registered t from i p within h = unaddressed-fits registered t from i within p h
+piece_at-fits true registered t from i p within h = Fit-or t i (unaddressed registered t from i) (address_from t from i) (unaddressed-fits registered t from i within) (address_from-fits t from i within) p h
 
-pub is-plain : (mail : Bool) (t : Text) (from at : ℕ) → from < at → at ≤ length t → HasNoStart mail t from from at → IsPlain mail t from (plain_from from at)
-is-plain mail t from at some within none = record { is_plain = refl; some = some; within = within; none = none }
+pub is-plain : (mail registered : Bool) (t : Text) (from at : ℕ) → from < at → at ≤ length t → HasNoStart mail registered t from from at → IsPlain mail registered t from (plain_from from at)
+is-plain mail registered t from at some within none = record { is_plain = refl; some = some; within = within; none = none }
 
 -- a start is within the text, as there is nothing past its end: a piece there would reach further
-pub inside_at : (mail : Bool) (t : Text) (from i : ℕ) (p : Piece) → i ≤ length t → piece_at mail t from i ≡ Some p → i < length t
-inside_at mail t from i p within h = let fits = piece_at-fits mail t from i p within h in omega (arith, fits.some, fits.within)
+pub inside_at : (mail registered : Bool) (t : Text) (from i : ℕ) (p : Piece) → i ≤ length t → piece_at mail registered t from i ≡ Some p → i < length t
+inside_at mail registered t from i p within h = let fits = piece_at-fits mail registered t from i p within h in omega (arith, fits.some, fits.within)
 
 -- ---- each piece lies within the text
 
@@ -84,17 +97,17 @@ fits-within t i p fits =
     let above = fits.above in
     record { some = omega arith; begins = omega arith; ends = fits.order; limit = fits.limit; within = fits.within }
 
-plain-within : (mail : Bool) (t : Text) (from : ℕ) (p : Piece) → IsPlain mail t from p → IsWithin t p
-plain-within mail t from p a =
+plain-within : (mail registered : Bool) (t : Text) (from : ℕ) (p : Piece) → IsPlain mail registered t from p → IsWithin t p
+plain-within mail registered t from p a =
     let within = a.within in
     let some = a.some in
     subst (IsWithin t) (sym a.is_plain) (record { some = some; begins = omega arith; ends = omega arith; limit = omega arith; within = within })
 
-pub IsPieces-within : (mail : Bool) (t : Text) (from : ℕ) (ps : List Piece) → from ≤ length t → IsPieces mail t from ps → All (IsWithin t) ps
-IsPieces-within mail t from _ h (nothing e) = All-nil (IsWithin t)
-IsPieces-within mail t from _ h (last p a e) = All-cons (IsWithin t) p [] (plain-within mail t from p a) (All-nil (IsWithin t))
-IsPieces-within mail t from _ h (other p ps a rest) =
-    let fits = piece_at-fits mail t from from p h a in All-cons (IsWithin t) p ps (fits-within t from p fits) (IsPieces-within mail t p.to ps fits.within rest)
-IsPieces-within mail t from _ h (plain p q ps a s rest) =
-    let fits = piece_at-fits mail t from p.to q a.within s in
-    All-cons (IsWithin t) p (q ∷ ps) (plain-within mail t from p a) (All-cons (IsWithin t) q ps (fits-within t p.to q fits) (IsPieces-within mail t q.to ps fits.within rest))
+pub IsPieces-within : (mail registered : Bool) (t : Text) (from : ℕ) (ps : List Piece) → from ≤ length t → IsPieces mail registered t from ps → All (IsWithin t) ps
+IsPieces-within mail registered t from _ h (nothing e) = All-nil (IsWithin t)
+IsPieces-within mail registered t from _ h (last p a e) = All-cons (IsWithin t) p [] (plain-within mail registered t from p a) (All-nil (IsWithin t))
+IsPieces-within mail registered t from _ h (other p ps a rest) =
+    let fits = piece_at-fits mail registered t from from p h a in All-cons (IsWithin t) p ps (fits-within t from p fits) (IsPieces-within mail registered t p.to ps fits.within rest)
+IsPieces-within mail registered t from _ h (plain p q ps a s rest) =
+    let fits = piece_at-fits mail registered t from p.to q a.within s in
+    All-cons (IsWithin t) p (q ∷ ps) (plain-within mail registered t from p a) (All-cons (IsWithin t) q ps (fits-within t p.to q fits) (IsPieces-within mail registered t q.to ps fits.within rest))

@@ -16,7 +16,9 @@ use Rattle.rst_inline_scan.specs.Footnotes.{label_stop, closes_label, label_piec
 use Rattle.rst_inline_scan.specs.Pieces.{piece_at, plain_from, IsPieces, nothing, last}
 use Rattle.rst_text.specs.Runs.{IsRun}
 use Rattle.rst_inline_scan.specs.Mail.{holds_at_sign}
-use Rattle.rst_inline_scan.proofs.MailLemmas.{same-pieces, absent-chars}
+use Rattle.rst_inline_scan.specs.Registered.{holds_colon}
+use Rattle.rst_inline_scan.proofs.MailLemmas.{absent-chars}
+use Rattle.rst_inline_scan.proofs.AskedLemmas.{asked-pieces}
 use Rattle.rst_inline_scan.specs.Quiet.{is_quiet, quiet}
 use Rattle.rst_inline_scan.specs.declared.piece.Piece.{Piece}
 use Rattle.rst_inline_scan.proofs.WordLemmas.{IsBarred, unmarked, differs, no-piece-barred}
@@ -59,7 +61,7 @@ no-label t i h =
 
 -- ---- one plain piece
 
-no-piece : (t : Text) (from i : ℕ) → IsQuiet t → i < length t → piece_at false t from i ≡ None
+no-piece : (t : Text) (from i : ℕ) → IsQuiet t → i < length t → piece_at false false t from i ≡ None
 no-piece t from i h less = no-piece-barred t from i (length t) (bars t i h less) (none-marked t i h) (no-label t i h)
 
 -- the whole text as one plain piece, or none where it is empty
@@ -67,7 +69,7 @@ abbrev pub whole : Text → List Piece
 whole [] = []
 whole (c ∷ cs) = plain_from 0 (length (c ∷ cs)) ∷ []
 
-marked-pieces : (t : Text) → IsQuiet t → IsPieces false t 0 (whole t)
+marked-pieces : (t : Text) → IsQuiet t → IsPieces false false t 0 (whole t)
 marked-pieces [] h = nothing refl
 marked-pieces (c ∷ cs) h =
     last (plain_from 0 (length (c ∷ cs))) (record { is_plain = refl; some = omega arith; within = omega arith; none = λ i low less. no-piece (c ∷ cs) 0 i h less }) refl
@@ -76,13 +78,27 @@ marked-pieces (c ∷ cs) h =
 quiet-parts : (t : Text) → quiet true t ≡ true → (quiet false t ≡ true) × (holds_at_sign t ≡ false)
 quiet-parts t h = let parts = and_parts (quiet false t) (not (holds_at_sign t)) h in (parts.0, not-true (holds_at_sign t) parts.1)
 
-pub quiet-pieces : (mail : Bool) (t : Text) → quiet mail t ≡ true → IsPieces mail t 0 (whole t)
-quiet-pieces false t h = marked-pieces t h
-quiet-pieces true t h = let parts = quiet-parts t h in same-pieces t 0 (whole t) parts.1 (marked-pieces t parts.0)
+quiet-base : (mail : Bool) (t : Text) → quiet mail t ≡ true → IsQuiet t
+quiet-base false t h = h
+quiet-base true t h = (quiet-parts t h).0
 
-pub quiet-one : (mail : Bool) (t : Text) → quiet mail t ≡ true → 0 < length t → IsPieces mail t 0 (plain_from 0 (length t) ∷ [])
-quiet-one mail [] h some = absurd (omega arith)
-quiet-one mail (c ∷ cs) h some = quiet-pieces mail (c ∷ cs) h
+unmailed : (mail : Bool) (t : Text) → quiet mail t ≡ true → mail ≡ true → holds_at_sign t ≡ false
+unmailed false t h asked = absurd (true≢false (sym asked))
+unmailed true t h asked = (quiet-parts t h).1
+
+colonless : (t : Text) → IsQuiet t → holds_colon t ≡ false
+colonless [] h = refl
+colonless (c ∷ cs) h =
+    let parts = and_parts (is_quiet c) (quiet false cs) h in
+    ap (λ b. b || holds_colon cs) (differs is_quiet c 58 parts.0 refl) ∙ colonless cs parts.1
+
+pub quiet-pieces : (mail registered : Bool) (t : Text) → quiet mail t ≡ true → IsPieces mail registered t 0 (whole t)
+quiet-pieces mail registered t h =
+    let base = quiet-base mail t h in asked-pieces mail registered t (whole t) (unmailed mail t h) (λ asked. colonless t base) (marked-pieces t base)
+
+pub quiet-one : (mail registered : Bool) (t : Text) → quiet mail t ≡ true → 0 < length t → IsPieces mail registered t 0 (plain_from 0 (length t) ∷ [])
+quiet-one mail registered [] h some = absurd (omega arith)
+quiet-one mail registered (c ∷ cs) h some = quiet-pieces mail registered (c ∷ cs) h
 
 -- ---- its characters
 

@@ -20,7 +20,7 @@ use Rattle.rst_inline_scan.specs.Uri.{has_letter, has_any_case, schemes, scheme_
 use Rattle.std.proofs.Math.Nat.{eq-or-lt_of_le}
 use Rattle.rst_inline_scan.specs.Words.{IsWord, goes_on}
 use Rattle.rst_inline_scan.specs.Calm.{IsScanned}
-use Rattle.rst_inline_scan.specs.Pieces.{markup_at, is_free, is_free_address, piece_at, HasNoStart}
+use Rattle.rst_inline_scan.specs.Pieces.{unlinked_at, markup_at, is_free, is_free_link, marked_or_registered, piece_at, HasNoStart}
 use Rattle.rst_text.proofs.EscapeLemmas.{other-bare, is_escaped-bare, is_escaped-more, is_escaped-start}
 use Rattle.rst_inline_scan.proofs.NameLemmas.{no-underscore, not_reference, is_reference-past}
 use Rattle.rst_inline_scan.proofs.UriLemmas.{letter_at, uri_end-none}
@@ -125,7 +125,7 @@ named (c ∷ cs) = c == 58 || (is_ascii_alphanumeric c && named cs)
 pub lower-colon : (c : ℕ) → to_ascii_lowercase c ≡ 58 → c ≡ 58
 lower-colon c h = grind (arith, nat_tests)
 
-lower-letter : (c : ℕ) → IsLetter (to_ascii_lowercase c) → IsLetter c
+pub lower-letter : (c : ℕ) → IsLetter (to_ascii_lowercase c) → IsLetter c
 lower-letter c h = grind (arith, nat_tests)
 
 no-scheme : (t : Text) (i e : ℕ) (word : List ℕ) → IsBarred t i e → named word ≡ true → has_any_case t i word ≡ true → ⊥
@@ -180,41 +180,49 @@ pub no-label : (t : Text) (i : ℕ) → has t i 91 ≡ false → label t i ≡ N
 unfolding label
 no-label t i h = rw h refl
 
+no-unlinked : (t : Text) (i e : ℕ) → IsBarred t i e → markup_of t i ≡ None → label t i ≡ None → unlinked_at t i ≡ None
+unfolding unlinked_at
+no-unlinked t i e bar none no_label = rw (none, no_label, no-reference t i e bar) refl
+
 no-markup : (t : Text) (i e : ℕ) → IsBarred t i e → markup_of t i ≡ None → label t i ≡ None → markup_at t i ≡ None
 unfolding markup_at
-no-markup t i e bar none no_label = rw (none, no_label, no-reference t i e bar, no-uri t i e bar) refl
+no-markup t i e bar none no_label = rw (no-unlinked t i e bar none no_label) (no-uri t i e bar)
 
 -- nothing begins at a place where none of these does
-pub no-piece-barred : (t : Text) (from i e : ℕ) → IsBarred t i e → markup_of t i ≡ None → label t i ≡ None → piece_at false t from i ≡ None
+pub no-piece-barred : (t : Text) (from i e : ℕ) → IsBarred t i e → markup_of t i ≡ None → label t i ≡ None → piece_at false false t from i ≡ None
 unfolding piece_at
 no-piece-barred t from i e bar none no_label = cond_both (is_free t from i) (markup_at t i) None (λ r. r ≡ None) (λ free. no-markup t i e bar none no_label) (λ stuck. refl)
 
 -- nothing begins where a word does, if nothing goes on with it,
-pub no-piece : (t : Text) (from i to : ℕ) → IsWord t i to → i < to → goes_on t to ≡ false → piece_at false t from i ≡ None
+pub no-piece : (t : Text) (from i to : ℕ) → IsWord t i to → i < to → goes_on t to ≡ false → piece_at false false t from i ≡ None
 no-piece t from i to run some h =
     let letter = run.letters i (omega arith) some in
     let none : (c : ℕ) → is_ascii_alphanumeric c ≡ false → has t i c ≡ false = λ c other. absent is_ascii_alphanumeric t i c letter other in
     no-piece-barred t from i to (word-bars t i to run h) (unmarked t i (none 42 refl) (none 96 refl) (and_left _ _ (none 95 refl)) (none 124 refl) (none 58 refl)) (no-label t i (none 91 refl))
 
 -- and further on in it nothing does.
-inside-word : (mail : Bool) (t : Text) (from i to k : ℕ) → IsWord t i to → from ≤ i → i < k → k ≤ to → piece_at mail t from k ≡ None
-unfolding piece_at is_free is_free_address
-inside-word false t from i to k run order above upto =
-    let before : may_precede_start (get_or t (k - 1) 0) ≡ false = letter-before _ (run.letters (k - 1) (omega arith) (omega arith)) in
-    rw before (grind (arith, nat_tests))
-inside-word true t from i to k run order above upto =
+inside-word : (mail registered : Bool) (t : Text) (from i to k : ℕ) → IsWord t i to → from ≤ i → i < k → k ≤ to → piece_at mail registered t from k ≡ None
+unfolding piece_at marked_or_registered is_free is_free_link
+inside-word mail registered t from i to k run order above upto =
     let before : may_precede_start (get_or t (k - 1) 0) ≡ false = letter-before _ (run.letters (k - 1) (omega arith) (omega arith)) in
     let past : (k == 0) ≡ false = ne_eqb k 0 (λ same. omega arith) in
     let later : (k == from) ≡ false = ne_eqb k from (λ same. omega arith) in
-    rw (before, past, later, and-false (not (is_escaped t from k))) refl
+    by mail registered before past later
+  where
+    by : (mail registered : Bool) → may_precede_start (get_or t (k - 1) 0) ≡ false → (k == 0) ≡ false → (k == from) ≡ false → piece_at mail registered t from k ≡ None
+    unfolding piece_at marked_or_registered is_free is_free_link
+    by false false before past later = rw (before, past, and-false (not (is_escaped t from k))) refl
+    by true false before past later = rw (before, past, later, and-false (not (is_escaped t from k))) refl
+    by false true before past later = rw (before, past, later, and-false (not (is_escaped t from k))) refl
+    by true true before past later = rw (before, past, later, and-false (not (is_escaped t from k))) refl
 
-none-word : (mail : Bool) (t : Text) (from i to : ℕ) → IsWord t i to → from ≤ i → HasNoStart mail t from from i → piece_at mail t from i ≡ None → HasNoStart mail t from from (to + 1)
-none-word mail t from i to run order none here k low high =
+none-word : (mail registered : Bool) (t : Text) (from i to : ℕ) → IsWord t i to → from ≤ i → HasNoStart mail registered t from from i → piece_at mail registered t from i ≡ None → HasNoStart mail registered t from from (to + 1)
+none-word mail registered t from i to run order none here k low high =
     ⊎_elim
     (λ before. none k low before)
     (λ rest. ⊎_elim
-    (λ same. subst (λ n. piece_at mail t from n ≡ None) (sym same) here)
-    (λ past. inside-word mail t from i to k run order past (omega arith))
+    (λ same. subst (λ n. piece_at mail registered t from n ≡ None) (sym same) here)
+    (λ past. inside-word mail registered t from i to k run order past (omega arith))
     rest)
     (lt_eq_gt k i)
 
@@ -228,32 +236,32 @@ escaped-after t from i to escaped order above known other = elim (eq-or-lt_of_le
 ]
 
 -- no plain text yet
-pub scanned-none : (mail : Bool) (t : Text) (from : ℕ) → from ≤ length t → IsScanned mail t from from false
-scanned-none mail t from within = record { above = omega arith; within = within; none = λ i low high. absurd (omega arith); escaped = sym (is_escaped-start t from) }
+pub scanned-none : (mail registered : Bool) (t : Text) (from : ℕ) → from ≤ length t → IsScanned mail registered t from from false
+scanned-none mail registered t from within = record { above = omega arith; within = within; none = λ i low high. absurd (omega arith); escaped = sym (is_escaped-start t from) }
 
 -- so a word is passed
-word-over : (mail : Bool) (t : Text) (from i to : ℕ) (escaped : Bool) → IsWord t i to → piece_at mail t from i ≡ None → IsScanned mail t from i escaped → IsScanned mail t from to (escaped && i == to)
-word-over mail t from i to escaped run here known = record {
+word-over : (mail registered : Bool) (t : Text) (from i to : ℕ) (escaped : Bool) → IsWord t i to → piece_at mail registered t from i ≡ None → IsScanned mail registered t from i escaped → IsScanned mail registered t from to (escaped && i == to)
+word-over mail registered t from i to escaped run here known = record {
   above = omega (arith, known.above, run.above);
   within = run.within;
-  none = λ k low high. none-word mail t from i to run known.above known.none here k low (omega arith);
+  none = λ k low high. none-word mail registered t from i to run known.above known.none here k low (omega arith);
   escaped = escaped-after t from i to escaped known.above run.above known.escaped
       (λ some. differs is_ascii_alphanumeric (get_or t (to - 1) 0) 92 (run.letters (to - 1) (omega arith) (omega arith)) refl);
 }
 
-pub word-scanned : (mail : Bool) (t : Text) (from i to : ℕ) (escaped : Bool) → IsWord t i to → piece_at mail t from i ≡ None → IsScanned mail t from i escaped → i < to → IsScanned mail t from to false
-word-scanned mail t from i to escaped run here known some = subst (IsScanned mail t from to) (ap (λ b. escaped && b) (ne_eqb i to (λ same. omega arith)) ∙ and-false escaped) (word-over mail t from i to escaped run here known)
+pub word-scanned : (mail registered : Bool) (t : Text) (from i to : ℕ) (escaped : Bool) → IsWord t i to → piece_at mail registered t from i ≡ None → IsScanned mail registered t from i escaped → i < to → IsScanned mail registered t from to false
+word-scanned mail registered t from i to escaped run here known some = subst (IsScanned mail registered t from to) (ap (λ b. escaped && b) (ne_eqb i to (λ same. omega arith)) ∙ and-false escaped) (word-over mail registered t from i to escaped run here known)
 
 -- and the character after it, where nothing begins either
-pub word-passed : (mail : Bool) (t : Text) (from i to : ℕ) (escaped : Bool) → IsWord t i to → piece_at mail t from i ≡ None → IsScanned mail t from i escaped → to < length t
-    → IsScanned mail t from (to + 1) (escapes (get_or t to 0) (escaped && i == to))
-word-passed mail t from i to escaped run here known inside =
-    let word = word-over mail t from i to escaped run here known in
+pub word-passed : (mail registered : Bool) (t : Text) (from i to : ℕ) (escaped : Bool) → IsWord t i to → piece_at mail registered t from i ≡ None → IsScanned mail registered t from i escaped → to < length t
+    → IsScanned mail registered t from (to + 1) (escapes (get_or t to 0) (escaped && i == to))
+word-passed mail registered t from i to escaped run here known inside =
+    let word = word-over mail registered t from i to escaped run here known in
     let above = word.above in
     record {
       above = omega arith;
       within = omega arith;
-      none = none-word mail t from i to run known.above known.none here;
+      none = none-word mail registered t from i to run known.above known.none here;
       escaped = ap (escapes (get_or t to 0)) word.escaped ∙ sym (is_escaped-more t from to above);
     }
 

@@ -31,8 +31,8 @@ abbrev pub is_of_name : ℕ → Bool
 is_of_name c = not (nat_lt c 128) || (is_ascii_alphanumeric c || is_joint c)
 
 -- Plain text goes from one place on up to another: there is no start between, and it is known whether the character at the other is escaped.
-pub record IsScanned (mail : Bool) (t : Text) (from place : ℕ) (known : Bool) : Type 0 where
+pub record IsScanned (mail registered : Bool) (t : Text) (from place : ℕ) (known : Bool) : Type 0 where
   pub above : from ≤ place
   pub within : place ≤ length t
-  pub none : HasNoStart mail t from from place
+  pub none : HasNoStart mail registered t from from place
   pub escaped : known ≡ is_escaped t from place

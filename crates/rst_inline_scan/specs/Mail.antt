@@ -5,8 +5,7 @@ use Rattle.std.specs.Char.{is_ascii_alphanumeric}
 use Rattle.rst_text.specs.Characters.{Text, has, is_among}
 use Rattle.rst_text.specs.Escapes.{has_backslash}
 use Rattle.rst_text.specs.Places.{first_from, last_from}
-use Rattle.rst_inline_scan.specs.Characters.{is_free_after}
-use Rattle.rst_inline_scan.specs.Uri.{is_uri_char}
+use Rattle.rst_inline_scan.specs.Registered.{ends_link}
 use Rattle.rst_inline_scan.specs.declared.piece.Kind.TheVariants.{Address}
 use Rattle.rst_inline_scan.specs.declared.piece.Piece.{Piece}
 
@@ -14,10 +13,6 @@ use Rattle.rst_inline_scan.specs.declared.piece.Piece.{Piece}
 unfoldable pub is_address_char : ℕ → Bool
 is_address_char c = is_ascii_alphanumeric c
     || is_among (45 ∷ 95 ∷ 33 ∷ 126 ∷ 42 ∷ 39 ∷ 123 ∷ 124 ∷ 125 ∷ 47 ∷ 35 ∷ 63 ∷ 94 ∷ 96 ∷ 38 ∷ 61 ∷ 43 ∷ 36 ∷ 37 ∷ []) c
-
--- an ASCII letter or digit, or one of _~*/=+ which may end an address
-unfoldable pub is_address_last : ℕ → Bool
-is_address_last c = is_ascii_alphanumeric c || is_among (95 ∷ 126 ∷ 42 ∷ 47 ∷ 61 ∷ 43 ∷ []) c
 
 -- the place holds such a character, or a backslash that is no part of an escaped backslash
 abbrev pub is_address_at : Text → ℕ → Bool
@@ -51,17 +46,9 @@ is_in_host t k = is_address_at t k || has t k 46
 unfoldable pub host_stop : Text → ℕ → ℕ
 host_stop t i = unwrap_or (first_from (λ k. not (is_in_host t k)) i (length t - i)) (length t)
 
--- before `>` any character of a URI may be the last, but for ? and #
-abbrev pub is_last_in_angles : Text → ℕ → Bool
-is_last_in_angles t e = has t e 62 && (is_uri_char (slice_index t (e - 1)) && not (is_among (35 ∷ 63 ∷ []) (slice_index t (e - 1))))
-
--- a host may end before the place: its last character fits, and so does what follows it
-unfoldable pub ends_host : Text → ℕ → Bool
-ends_host t e = (is_address_last (slice_index t (e - 1)) || is_last_in_angles t e) && is_free_after t e
-
 -- the greatest end of the host that begins at the place, of two characters or more
 unfoldable pub host_end : Text → ℕ → Option ℕ
-host_end t i = if is_address_at t i then last_from (ends_host t) (i + 2) (host_stop t i - i) else None
+host_end t i = if is_address_at t i then last_from (ends_link t) (i + 2) (host_stop t i - i) else None
 
 -- ---- the whole
 

@@ -6,8 +6,8 @@ use Rattle.rst_inline_scan.specs.Pieces.{piece_at, plain_from}
 use Rattle.rst_inline_scan.specs.declared.piece.Piece.{Piece}
 
 -- the least start at or after a place, where plain text begins
-abbrev pub next_start : Bool → Text → ℕ → Option ℕ
-next_start mail t from = first_from (λ i. is_some (piece_at mail t from i)) from (length t - from)
+abbrev pub next_start : Bool → Bool → Text → ℕ → Option ℕ
+next_start mail registered t from = first_from (λ i. is_some (piece_at mail registered t from i)) from (length t - from)
 
 -- a plain piece, unless it is empty
 abbrev pub plain_if : ℕ → ℕ → List Piece
@@ -19,15 +19,15 @@ piece_then None others = []
 piece_then (Some p) others = p ∷ others p.to
 
 -- the plain piece up to the next start, the piece that begins there, and those after it
-abbrev pub pieces_by : Bool → Text → ℕ → Option ℕ → (ℕ → List Piece) → List Piece
-pieces_by mail t from None others = plain_if from (length t)
-pieces_by mail t from (Some i) others = plain_if from i ++ piece_then (piece_at mail t from i) others
+abbrev pub pieces_by : Bool → Bool → Text → ℕ → Option ℕ → (ℕ → List Piece) → List Piece
+pieces_by mail registered t from None others = plain_if from (length t)
+pieces_by mail registered t from (Some i) others = plain_if from i ++ piece_then (piece_at mail registered t from i) others
 
 -- the pieces from a place on, with at most this many starts
-abbrev pub pieces_from : Bool → Text → ℕ → ℕ → List Piece
-pieces_from mail t zero from = []
-pieces_from mail t (suc n) from = pieces_by mail t from (next_start mail t from) (λ next. pieces_from mail t n next)
+abbrev pub pieces_from : Bool → Bool → Text → ℕ → ℕ → List Piece
+pieces_from mail registered t zero from = []
+pieces_from mail registered t (suc n) from = pieces_by mail registered t from (next_start mail registered t from) (λ next. pieces_from mail registered t n next)
 
 -- the pieces of a text, which has no more starts than characters
-unfoldable pub pieces_of : Bool → Text → List Piece
-pieces_of mail t = pieces_from mail t (suc (length t)) 0
+unfoldable pub pieces_of : Bool → Bool → Text → List Piece
+pieces_of mail registered t = pieces_from mail registered t (suc (length t)) 0

@@ -15,17 +15,21 @@ abbrev pub spelled_cut : Kind × String → Kind × Text
 spelled_cut (kind, text) = (kind, codes text)
 
 -- the text falls into these pieces
-abbrev pub CutsBy : Bool → String → List (Kind × String) → Type 0
-CutsBy mail text cuts = map (kind_and_source (codes text)) (pieces_of mail (codes text)) ≡ map spelled_cut cuts
+abbrev pub CutsBy : Bool → Bool → String → List (Kind × String) → Type 0
+CutsBy mail registered text cuts = map (kind_and_source (codes text)) (pieces_of mail registered (codes text)) ≡ map spelled_cut cuts
 
--- so it does where no addresses are asked for
+-- so it does by the base
 abbrev pub Cuts : String → List (Kind × String) → Type 0
-Cuts text cuts = CutsBy false text cuts
+Cuts text cuts = CutsBy false false text cuts
 
 -- so it does where addresses are asked for
 abbrev pub CutsMail : String → List (Kind × String) → Type 0
-CutsMail text cuts = CutsBy true text cuts
+CutsMail text cuts = CutsBy true false text cuts
+
+-- so it does by the wider profile
+abbrev pub CutsWider : String → List (Kind × String) → Type 0
+CutsWider text cuts = CutsBy true true text cuts
 
 -- what the markup of each piece encloses
 abbrev pub contents : String → List Text
-contents text = map (λ p. drop p.content_from (take p.content_to (codes text))) (pieces_of false (codes text))
+contents text = map (λ p. drop p.content_from (take p.content_to (codes text))) (pieces_of false false (codes text))

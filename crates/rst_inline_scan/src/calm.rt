@@ -43,7 +43,7 @@ fn is_of_name(byte: u8) -> bool
 pub(crate) fn step(bytes: &[u8], place: usize, escaped: bool, searched: &mut usize) -> (usize, bool)
     requires { place < length bytes.now }
     ensures above { place ≤ result.0 }
-    ensures over { (text : List ℕ) (from : ℕ) → AreBytesOf text bytes.now → IsScanned false text from place escaped → IsScanned false text from result.0 result.1 }
+    ensures over { (text : List ℕ) (from : ℕ) → AreBytesOf text bytes.now → IsScanned false false text from place escaped → IsScanned false false text from result.0 result.1 }
 {
     if place < *searched {
         return (place, escaped);

@@ -11,6 +11,7 @@ mod missing;
 mod names;
 mod piece;
 mod quiet;
+mod registered;
 pub mod rows;
 mod scanner;
 mod tails;
@@ -19,6 +20,7 @@ mod words;
 
 pub use laws::{
     addresses_need_an_at_sign, one_list_of_pieces, pieces_are_found, quiet_is_one_piece,
+    schemes_need_a_colon,
 };
 pub use mail::is_address;
 pub use piece::{Kind, Markup, Piece, Suffix};

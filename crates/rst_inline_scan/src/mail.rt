@@ -1,11 +1,10 @@
 //! E-mail addresses.
 ghost use Rattle.std.specs.Prelude.{◌≡◌, None, ◌<◌, ◌≤◌, ℕ, length};
-ghost use Rattle.rst_inline_scan.specs.Mail.{is_address_char, is_address_last, is_address_at, is_in_user, user_stop, has_at_sign, is_in_host, host_stop, is_last_in_angles, ends_host, host_end, address_end, address, is_address};
+ghost use Rattle.rst_inline_scan.specs.Mail.{is_address_char, is_address_at, is_in_user, user_stop, has_at_sign, is_in_host, host_stop, host_end, address_end, address, is_address};
 ghost use Rattle.rst_inline_scan.specs.Missing.{HasNoAddress};
 
-use super::characters::is_free_after;
 use super::piece::{Kind, Piece};
-use super::uri::is_uri_char;
+use super::registered::ends_link;
 use rst_text::has;
 
 /// Whether an address may hold the character.
@@ -35,14 +34,6 @@ fn is_address_char(c: char) -> bool
                 | '$'
                 | '%'
         )
-}
-
-/// Whether the character may end an address.
-#[tactic(auto, unfolding(crate::specs::Mail::is_address_last))]
-fn is_address_last(c: char) -> bool
-    ensures { result ≡ is_address_last c }
-{
-    c.is_ascii_alphanumeric() || matches!(c, '_' | '~' | '*' | '/' | '=' | '+')
 }
 
 /// Whether a character of an address is at the place, or a backslash that is no part of an escaped backslash.
@@ -108,21 +99,6 @@ fn host_stop(text: &[char], start: usize) -> usize
     text.len()
 }
 
-/// Whether a host may end before the place.
-#[tactic(auto, unfolding(crate::specs::Mail::ends_host))]
-fn ends_host(text: &[char], place: usize) -> bool
-    requires { 0 < place }
-    ensures { result ≡ ends_host text.now place }
-{
-    if text.len() < place {
-        return false;
-    }
-    let last = text[place - 1];
-    (is_address_last(last)
-        || (has(text, place, '>') && is_uri_char(last) && last != '#' && last != '?'))
-        && is_free_after(text, place)
-}
-
 /// The greatest end of the host that begins at the place.
 #[tactic(auto, unfolding(crate::specs::Mail::host_end))]
 fn host_end(text: &[char], start: usize) -> Option<usize>
@@ -135,7 +111,7 @@ fn host_end(text: &[char], start: usize) -> Option<usize>
     let stop = host_stop(text, start);
     let mut end = stop + 1;
     while start + 1 < end {
-        if ends_host(text, end) {
+        if ends_link(text, end) {
             return Some(end);
         }
         end -= 1;

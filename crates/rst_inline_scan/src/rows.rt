@@ -4,9 +4,10 @@
 
 ghost use Rattle.std.specs.Prelude.{◌≡◌, true, false, codes, filter, map, [], ◌∷◌};
 ghost use Rattle.rst_inline_scan.specs.Characters.{may_follow, may_precede_start};
-ghost use Rattle.rst_inline_scan.specs.Reads.{Cuts, CutsMail, contents};
-ghost use Rattle.rst_inline_scan.specs.Mail.{is_address_char, is_address_last, is_address};
+ghost use Rattle.rst_inline_scan.specs.Reads.{Cuts, CutsMail, CutsWider, contents};
+ghost use Rattle.rst_inline_scan.specs.Mail.{is_address_char, is_address};
 ghost use Rattle.rst_inline_scan.specs.Uri.{is_uri_char, is_uri_trail};
+ghost use Rattle.rst_inline_scan.specs.Registered.{is_uric, is_link_last};
 ghost use Rattle.rst_inline_scan.specs.declared.piece.Kind.TheVariants.{Plain, Marked, Unended, Label, Reference, Uri, Address};
 ghost use Rattle.rst_inline_scan.specs.declared.piece.Markup.TheVariants.{Strong, Emphasis, Literal, Target, Substitution, Interpreted};
 ghost use Rattle.rst_inline_scan.specs.declared.piece.Suffix.TheVariants.{Bare, Role, Named, Anonymous};
@@ -151,10 +152,35 @@ pub fn uris()
     ensures escaped { Cuts "\\http://a" ((Plain, "\\http://a") ∷ []) }
 {}
 
+/// Standalone URIs of registered schemes (Markup Specification, 'Standalone Hyperlinks'; docs/profile/wider.md, 'URIs').
+pub fn registered_uris()
+    ensures characters { filter is_uric (codes "!\"#$%&'()*+,-./:;<=>?@[\\]^_`{|}~ aZ09ä") ≡ codes "!$%&'()*+,-./:;=@[]_~aZ09" }
+    ensures schemes { CutsWider "ssh://x.org, git://y.org" ((Uri, "ssh://x.org") ∷ (Plain, ", git://y.org") ∷ []) }
+    ensures no_slashes { CutsWider "http:a urn:isbn:1 a:b" ((Uri, "http:a") ∷ (Plain, " ") ∷ (Uri, "urn:isbn:1") ∷ (Plain, " a:b") ∷ []) }
+    ensures joints_in_schemes { CutsWider "whois++:a z39.50r:b GSM-SMS:c whois:d"
+        ((Uri, "whois++:a") ∷ (Plain, " ") ∷ (Uri, "z39.50r:b") ∷ (Plain, " ") ∷ (Uri, "GSM-SMS:c") ∷ (Plain, " whois:d") ∷ []) }
+    ensures letter_before_a_scheme { CutsWider "xhttp:a x-http:a" ((Plain, "xhttp:a x-") ∷ (Uri, "http:a") ∷ []) }
+    ensures last_characters { CutsWider "http:c- http:c=; http:c_ (http:c)d)"
+        ((Uri, "http:c") ∷ (Plain, "- ") ∷ (Uri, "http:c=") ∷ (Plain, "; ") ∷ (Uri, "http:c_") ∷ (Plain, " (") ∷ (Uri, "http:c)d") ∷ (Plain, ")") ∷ []) }
+    ensures cut_back { CutsWider "http:a.b<d> http:é" ((Uri, "http:a") ∷ (Plain, ".b<d> http:é") ∷ []) }
+    ensures before_an_angle { CutsWider "<http:a.> <http:b.\\>" ((Plain, "<") ∷ (Uri, "http:a.") ∷ (Plain, "> <") ∷ (Uri, "http:b.\\") ∷ (Plain, ">") ∷ []) }
+    ensures query_and_fragment { CutsWider "http:a?b=c#d http:a#b?c" ((Uri, "http:a?b=c#d") ∷ (Plain, " ") ∷ (Uri, "http:a#b") ∷ (Plain, "?c") ∷ []) }
+    ensures two_fragments { CutsWider "http:a?b#c#d" ((Uri, "http:a") ∷ (Plain, "?b#c#d") ∷ []) }
+    ensures empty_parts { CutsWider "http:a?#b http:a? http:/" ((Uri, "http:a") ∷ (Plain, "?#b ") ∷ (Uri, "http:a") ∷ (Plain, "? ") ∷ (Uri, "http:/") ∷ []) }
+    ensures punctuation_before_a_query { CutsWider "http:a-?b" ((Uri, "http:a") ∷ (Plain, "-?b") ∷ []) }
+    ensures nothing { CutsWider "http: http:- http:." ((Plain, "http: http:- http:.") ∷ []) }
+    ensures escapes { CutsWider "http:/\\*x http:c\\ d http:a\\\\b"
+        ((Uri, "http:/\\*x") ∷ (Plain, " ") ∷ (Uri, "http:c") ∷ (Plain, "\\ d ") ∷ (Uri, "http:a") ∷ (Plain, "\\\\b") ∷ []) }
+    ensures escaped { CutsWider "\\http:a" ((Plain, "\\http:a") ∷ []) }
+    ensures after_a_start { CutsWider "*http:a" ((Unended Emphasis, "*") ∷ (Uri, "http:a") ∷ []) }
+    ensures name_first { CutsWider "news:a_" ((Reference Named, "news:a_") ∷ []) }
+    ensures beside_an_address { CutsWider "mailto:a@b.c d@e.f" ((Uri, "mailto:a@b.c") ∷ (Plain, " ") ∷ (Address, "d@e.f") ∷ []) }
+{}
+
 /// E-mail addresses (Markup Specification, 'Standalone Hyperlinks').
 pub fn addresses()
     ensures characters { filter is_address_char (codes "!\"#$%&'()*+,-./:;<=>?@[\\]^_`{|}~ aZ09ä") ≡ codes "!#$%&'*+-/=?^_`{|}~aZ09" }
-    ensures last_characters { filter is_address_last (codes "!\"#$%&'()*+,-./:;<=>?@[\\]^_`{|}~ aZ09ä") ≡ codes "*+/=_~aZ09" }
+    ensures last_characters { filter is_link_last (codes "!\"#$%&'()*+,-./:;<=>?@[\\]^_`{|}~ aZ09ä") ≡ codes "*+/=_~aZ09" }
     ensures before_a_period { CutsMail "to me@example.org." ((Plain, "to ") ∷ (Address, "me@example.org") ∷ (Plain, ".") ∷ []) }
     ensures not_asked_for { Cuts "to me@example.org." ((Plain, "to me@example.org.") ∷ []) }
     ensures one_character { CutsMail "a@b a@bc" ((Plain, "a@b ") ∷ (Address, "a@bc") ∷ []) }
@@ -172,6 +198,7 @@ pub fn addresses()
     ensures dots { CutsMail "a.b@cd a.b.@cd a..b@cd .a@bc" ((Address, "a.b@cd") ∷ (Plain, " a.b.@cd a..b@cd .a@bc") ∷ []) }
     ensures underscores { CutsMail "john_@a.org me@a.org_ me@ab.org`" ((Address, "john_@a.org") ∷ (Plain, " ") ∷ (Address, "me@a.org_") ∷ (Plain, " ") ∷ (Address, "me@ab") ∷ (Plain, ".org`") ∷ []) }
     ensures escapes { CutsMail "me\\@a.org m\\e@a.org m\\\\e@a.org" ((Plain, "me\\@a.org ") ∷ (Address, "m\\e@a.org") ∷ (Plain, " m\\\\e@a.org") ∷ []) }
+    ensures escaped_angle { CutsMail "<a@bc.\\>" ((Plain, "<") ∷ (Address, "a@bc.\\") ∷ (Plain, ">") ∷ []) }
     ensures least_place { CutsMail "me/*b@cd.ef* x" ((Address, "me/*b@cd.ef*") ∷ (Plain, " x") ∷ []) }
     ensures whole { map is_address (codes "x@y.z" ∷ codes "m+e@yz" ∷ []) ≡ true ∷ true ∷ [] }
     ensures not_whole { map is_address (codes "é@y.z" ∷ codes "a@bcx " ∷ codes "a@bc." ∷ codes "mailto:a@bc" ∷ codes "m\\e@bc" ∷ codes "a@b" ∷ [] ∷ [])

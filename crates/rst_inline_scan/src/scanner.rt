@@ -3,7 +3,7 @@ ghost use Rattle.std.specs.Prelude.{◌≡◌, ℕ, ◌<◌, ◌≤◌, ◌++◌
 ghost use Rattle.rst_inline_scan.specs.Calm.{AreBytesOf};
 ghost use Rattle.rst_text.specs.Escapes.{is_escaped};
 ghost use Rattle.rst_inline_scan.specs.Marked.{markup_of};
-ghost use Rattle.rst_inline_scan.specs.Pieces.{markup_at, piece_at, IsPieces};
+ghost use Rattle.rst_inline_scan.specs.Pieces.{unlinked_at, markup_at, marked_or_registered, piece_at, IsPieces};
 ghost use Rattle.rst_inline_scan.specs.Reading.{plain_if};
 ghost use Rattle.rst_inline_scan.specs.Missing.{HasNoAddress, IsMissing};
 ghost use Rattle.rst_inline_scan.specs.Words.{IsWord};
@@ -15,6 +15,7 @@ use super::mail::address;
 use super::missing::Missing;
 use super::names::reference;
 use super::piece::{Kind, Markup, Piece};
+use super::registered::registered_uri;
 use super::uri::uri;
 use super::words::{goes_on, word_end};
 use rst_text::{escapes, has};
@@ -37,12 +38,13 @@ fn markup_of(text: &[char], place: usize) -> Option<Markup>
     }
 }
 
-/// The piece that the first kind of markup gives that holds at the place.
-#[tactic(auto, unfolding(crate::specs::Pieces::markup_at))]
-fn markup_at(text: &[char], place: usize, missing: &mut Missing) -> Option<Piece>
+/// The piece that the first kind of markup gives that holds at the place, standalone hyperlinks apart.
+#[tactic(auto, unfolding(crate::specs::Pieces::unlinked_at))]
+#[inline(always)]
+fn unlinked_at(text: &[char], place: usize, missing: &mut Missing) -> Option<Piece>
     requires place { place < length text.now }
     requires known { IsMissing text.now missing.old place }
-    ensures exact { result ≡ markup_at text.now place }
+    ensures exact { result ≡ unlinked_at text.now place }
     ensures known { IsMissing text.now missing.new place }
 {
     if let Some(markup) = markup_of(text, place) {
@@ -53,7 +55,18 @@ fn markup_at(text: &[char], place: usize, missing: &mut Missing) -> Option<Piece
     if let Some(piece) = label(text, place) {
         return Some(piece);
     }
-    if let Some(piece) = reference(text, place, missing) {
+    reference(text, place, missing)
+}
+
+/// The same with the URIs of the base.
+#[tactic(auto, unfolding(crate::specs::Pieces::markup_at))]
+fn markup_at(text: &[char], place: usize, missing: &mut Missing) -> Option<Piece>
+    requires place { place < length text.now }
+    requires known { IsMissing text.now missing.old place }
+    ensures exact { result ≡ markup_at text.now place }
+    ensures known { IsMissing text.now missing.new place }
+{
+    if let Some(piece) = unlinked_at(text, place, missing) {
         return Some(piece);
     }
     uri(text, place, missing)
@@ -73,7 +86,7 @@ fn piece_at(
     requires place { place < length text.now }
     requires word { IsWord text.now place end }
     requires known { IsMissing text.now missing.old place }
-    ensures exact { (from : ℕ) → escaped ≡ is_escaped text.now from place → result ≡ piece_at false text.now from place }
+    ensures exact { (from : ℕ) → escaped ≡ is_escaped text.now from place → result ≡ piece_at false false text.now from place }
     ensures known { IsMissing text.now missing.new place }
 {
     if place < end && !goes_on(text, end) {
@@ -86,21 +99,25 @@ fn piece_at(
     }
 }
 
-/// The pieces of the text, in order, with e-mail addresses where `mail` asks for them. Exactly one list is that of a text
-/// ([`super::one_list_of_pieces`]).
+/// The pieces of the text, in order: with e-mail addresses where `mail` asks for them, and with the URIs of registered schemes in place of those of the base
+/// where `registered` does. Exactly one list is that of a text ([`super::one_list_of_pieces`]).
 ///
 /// What a failed search has found to be absent is remembered, so that the time grows no faster than the text. The pieces
 /// take the place of what is in a list, so that a list can serve several texts.
 pub fn pieces_of(
     alloc: Global,
     mail: bool,
+    registered: bool,
     text: &[char],
     pieces: Vec<Piece>,
 ) -> Result<Vec<Piece>, AllocError>
-    ensures { IfOk result (λ pieces. IsPieces mail text.now 0 pieces.items) }
+    ensures { IfOk result (λ pieces. IsPieces mail registered text.now 0 pieces.items) }
 {
     if mail && text.contains(&'@') {
-        return pieces_and_addresses(text, pieces);
+        return pieces_and_links(mail, registered, text, pieces);
+    }
+    if registered && text.contains(&':') {
+        return pieces_and_links(mail, registered, text, pieces);
     }
     let mut bytes = Vec::with_capacity(alloc, text.len())?;
     for c in text {
@@ -112,23 +129,27 @@ pub fn pieces_of(
 /// The same of a text whose characters `bytes` are.
 pub fn pieces_of_ascii(
     mail: bool,
+    registered: bool,
     text: &[char],
     bytes: &[u8],
     pieces: Vec<Piece>,
 ) -> Result<Vec<Piece>, AllocError>
     requires { bytes.now ≡ text.now }
-    ensures { IfOk result (λ pieces. IsPieces mail text.now 0 pieces.items) }
+    ensures { IfOk result (λ pieces. IsPieces mail registered text.now 0 pieces.items) }
 {
     if mail && bytes.contains(&b'@') {
-        return pieces_and_addresses(text, pieces);
+        return pieces_and_links(mail, registered, text, pieces);
+    }
+    if registered && bytes.contains(&b':') {
+        return pieces_and_links(mail, registered, text, pieces);
     }
     pieces_by(text, bytes, pieces)
 }
 
-/// The pieces of a text with no addresses, with a byte for each character: that of ASCII, or one past ASCII. The steps over what holds no markup are wider in bytes.
+/// The pieces of a text by the base, with a byte for each character: that of ASCII, or one past ASCII. The steps over what holds no markup are wider in bytes.
 fn pieces_by(text: &[char], bytes: &[u8], mut pieces: Vec<Piece>) -> Result<Vec<Piece>, AllocError>
     requires { AreBytesOf text.now bytes.now }
-    ensures { IfOk result (λ pieces. IsPieces false text.now 0 pieces.items) }
+    ensures { IfOk result (λ pieces. IsPieces false false text.now 0 pieces.items) }
 {
     pieces.clear();
     let mut from = 0;
@@ -168,14 +189,49 @@ fn pieces_by(text: &[char], bytes: &[u8], mut pieces: Vec<Piece>) -> Result<Vec<
     Ok(pieces)
 }
 
-/// The piece that begins at the place, an address where no markup does.
-#[tactic(auto, unfolding(crate::specs::Pieces::piece_at, crate::specs::Pieces::is_free_address))]
-fn piece_or_address(
+/// The piece that begins at the place: markup, or a URI of a registered scheme.
+#[tactic(auto, unfolding(crate::specs::Pieces::marked_or_registered, crate::specs::Pieces::is_free, crate::specs::Pieces::is_free_link))]
+fn marked_or_registered(
     text: &[char],
     from: usize,
     place: usize,
     end: usize,
     escaped: bool,
+    missing: &mut Missing,
+) -> Option<Piece>
+    requires place { place < length text.now }
+    requires order { from ≤ place }
+    requires word { IsWord text.now place end }
+    requires known { IsMissing text.now missing.old place }
+    ensures exact { escaped ≡ is_escaped text.now from place → result ≡ marked_or_registered text.now from place }
+    ensures known { IsMissing text.now missing.new place }
+{
+    if escaped {
+        return None;
+    }
+    let after_start = place == 0 || may_precede_start(text[place - 1]);
+    if after_start {
+        if let Some(piece) = unlinked_at(text, place, missing) {
+            return Some(piece);
+        }
+    }
+    if after_start || place == from {
+        registered_uri(text, place, end)
+    } else {
+        None
+    }
+}
+
+/// The piece that begins at the place: markup or a standalone hyperlink.
+#[tactic(auto, unfolding(crate::specs::Pieces::piece_at, crate::specs::Pieces::is_free_link))]
+fn piece_or_link(
+    text: &[char],
+    from: usize,
+    place: usize,
+    end: usize,
+    escaped: bool,
+    mail: bool,
+    registered: bool,
     missing: &mut Missing,
     searched: &mut usize,
 ) -> Option<Piece>
@@ -184,23 +240,33 @@ fn piece_or_address(
     requires word { IsWord text.now place end }
     requires known { IsMissing text.now missing.old place }
     requires searched { HasNoAddress text.now place searched.old }
-    ensures exact { escaped ≡ is_escaped text.now from place → result ≡ piece_at true text.now from place }
+    ensures exact { escaped ≡ is_escaped text.now from place → result ≡ piece_at mail registered text.now from place }
     ensures known { IsMissing text.now missing.new place }
     ensures searched { HasNoAddress text.now place searched.new }
 {
-    if let Some(piece) = piece_at(text, place, end, escaped, missing) {
+    let found = if registered {
+        marked_or_registered(text, from, place, end, escaped, missing)
+    } else {
+        piece_at(text, place, end, escaped, missing)
+    };
+    if let Some(piece) = found {
         return Some(piece);
     }
-    if !escaped && (place == from || may_precede_start(text[place - 1])) {
+    if mail && !escaped && (place == from || may_precede_start(text[place - 1])) {
         address(text, place, searched)
     } else {
         None
     }
 }
 
-/// The pieces of a text, with addresses. Each word is looked at: few texts hold an `@`.
-fn pieces_and_addresses(text: &[char], mut pieces: Vec<Piece>) -> Result<Vec<Piece>, AllocError>
-    ensures { IfOk result (λ pieces. IsPieces true text.now 0 pieces.items) }
+/// The pieces of a text, with addresses and the URIs of registered schemes where they are asked for. Each word is looked at: few texts hold an `@` or a colon.
+fn pieces_and_links(
+    mail: bool,
+    registered: bool,
+    text: &[char],
+    mut pieces: Vec<Piece>,
+) -> Result<Vec<Piece>, AllocError>
+    ensures { IfOk result (λ pieces. IsPieces mail registered text.now 0 pieces.items) }
 {
     pieces.clear();
     let mut from = 0;
@@ -210,7 +276,9 @@ fn pieces_and_addresses(text: &[char], mut pieces: Vec<Piece>) -> Result<Vec<Pie
     let mut searched = 0;
     while place < text.len() {
         let end = word_end(text, place);
-        match piece_or_address(text, from, place, end, escaped, &mut missing, &mut searched) {
+        match piece_or_link(
+            text, from, place, end, escaped, mail, registered, &mut missing, &mut searched,
+        ) {
             Some(piece) => {
                 push_plain(&mut pieces, from, place)?;
                 pieces.push(piece)?;

@@ -15,7 +15,7 @@ const SCHEMES: [&str; 7] = [
 ];
 
 /// Whether the word, which is in lower case, is at the place in any case.
-fn begins_at(text: &[char], place: usize, word: &str) -> bool
+pub(crate) fn begins_at(text: &[char], place: usize, word: &str) -> bool
     requires { place ≤ length text.now }
     ensures { result ≡ has_any_case text.now place word.now }
 {

@@ -150,17 +150,17 @@ pub fn labels()
 /// What a replacement text may contain (Directives, 'Replacement Text').
 pub fn replacements()
     ensures roles { may_replace (nodes_from no_parts (codes "*a* **b** ``c`` :sub:`d` :sup:`e` `f` |g| h") 1 0
-        (pieces_of false (codes "*a* **b** ``c`` :sub:`d` :sup:`e` `f` |g| h"))) ≡ true }
+        (pieces_of false false (codes "*a* **b** ``c`` :sub:`d` :sup:`e` `f` |g| h"))) ≡ true }
     ensures further_roles { may_replace (nodes_from all_parts (codes ":ac:`a` :ab:`b` :math:`c` :code:`d` :pep:`8`") 1 0
-        (pieces_of true (codes ":ac:`a` :ab:`b` :math:`c` :code:`d` :pep:`8`"))) ≡ true }
-    ensures references { may_replace (nodes_from no_parts (codes "a_ http://b") 1 0 (pieces_of false (codes "a_ http://b"))) ≡ true }
-    ensures embedded { may_replace (nodes_from no_parts (codes "`a <u>`__ `a <b_>`_") 1 0 (pieces_of false (codes "`a <u>`__ `a <b_>`_"))) ≡ true }
-    ensures anonymous { may_replace (nodes_from no_parts (codes "a__") 1 0 (pieces_of false (codes "a__"))) ≡ false }
-    ensures round_a_substitution { may_replace (nodes_from no_parts (codes "|a|_") 1 0 (pieces_of false (codes "|a|_"))) ≡ false }
-    ensures target { may_replace (nodes_from no_parts (codes "_`a`") 1 0 (pieces_of false (codes "_`a`"))) ≡ false }
-    ensures footnote { may_replace (nodes_from no_parts (codes "[1]_") 1 0 (pieces_of false (codes "[1]_"))) ≡ false }
-    ensures citation { may_replace (nodes_from no_parts (codes "[a]_") 1 0 (pieces_of false (codes "[a]_"))) ≡ false }
-    ensures problematic { may_replace (nodes_from no_parts (codes "*a") 1 0 (pieces_of false (codes "*a"))) ≡ false }
+        (pieces_of true true (codes ":ac:`a` :ab:`b` :math:`c` :code:`d` :pep:`8`"))) ≡ true }
+    ensures references { may_replace (nodes_from no_parts (codes "a_ http://b") 1 0 (pieces_of false false (codes "a_ http://b"))) ≡ true }
+    ensures embedded { may_replace (nodes_from no_parts (codes "`a <u>`__ `a <b_>`_") 1 0 (pieces_of false false (codes "`a <u>`__ `a <b_>`_"))) ≡ true }
+    ensures anonymous { may_replace (nodes_from no_parts (codes "a__") 1 0 (pieces_of false false (codes "a__"))) ≡ false }
+    ensures round_a_substitution { may_replace (nodes_from no_parts (codes "|a|_") 1 0 (pieces_of false false (codes "|a|_"))) ≡ false }
+    ensures target { may_replace (nodes_from no_parts (codes "_`a`") 1 0 (pieces_of false false (codes "_`a`"))) ≡ false }
+    ensures footnote { may_replace (nodes_from no_parts (codes "[1]_") 1 0 (pieces_of false false (codes "[1]_"))) ≡ false }
+    ensures citation { may_replace (nodes_from no_parts (codes "[a]_") 1 0 (pieces_of false false (codes "[a]_"))) ≡ false }
+    ensures problematic { may_replace (nodes_from no_parts (codes "*a") 1 0 (pieces_of false false (codes "*a"))) ≡ false }
 {}
 
 /// Parts of tables (Markup Specification, 'Grid Tables').

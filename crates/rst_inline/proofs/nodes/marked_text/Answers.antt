@@ -7,4 +7,4 @@ pub read-requires : goal.read-requires
 read-requires c =
     let t = c.in_ok-written.written.characters.items in
     let parts = c.in_ok-written.written.parts.now in
-    IsPieces-within parts.mail t 0 c.deref.result.now (omega arith) (subst (IsPieces parts.mail t 0) (sym c.deref.ensures.value) c.in_ok-pieces.ensures)
+    IsPieces-within parts.mail parts.unmarked t 0 c.deref.result.now (omega arith) (subst (IsPieces parts.mail parts.unmarked t 0) (sym c.deref.ensures.value) c.in_ok-pieces.ensures)

@@ -5,6 +5,6 @@ use Rattle.rst_inline_scan.proofs.laws.quiet_is_one_piece.Goals as goal
 
 pub returns : goal.returns
 returns c = record {
-  one = λ mail t h some. quiet-one mail t h some;
-  none = λ mail. nothing refl;
+  one = λ mail registered t h some. quiet-one mail registered t h some;
+  none = λ mail registered. nothing refl;
 }

@@ -1,7 +1,8 @@
 use Rattle.std.proofs.Common.{◌≡◌, ⊎_elim, ◌+◌, Some, None, true, false, subst, arith}
 use Rattle.std.proofs.lemmas.Bool.{cases_lt}
 use Rattle.rst_text.proofs.PlacesLemmas.{NoneFrom-within}
-use Rattle.rst_inline_scan.specs.Mail.{is_address_at, ends_host}
+use Rattle.rst_inline_scan.specs.Registered.{ends_link}
+use Rattle.rst_inline_scan.specs.Mail.{is_address_at}
 use Rattle.rst_inline_scan.proofs.MailLemmas.{host_end-is}
 use Rattle.rst_inline_scan.proofs.mail.host_end.Goals as goal
 
@@ -11,21 +12,21 @@ loop-end-init c = record { upto = omega arith; none = λ k low high. absurd (ome
 pub loop-end-preserved : goal.loop-end-preserved
 loop-end-preserved c =
     let t = c.args.text.now in
-    let here : ends_host t c.loop-end.end ≡ false = cc in
+    let here : ends_link t c.loop-end.end ≡ false = cc in
     let upto = c.loop-end.invariant.upto in
     record {
       upto = omega arith;
       none = λ k low high. ⊎_elim
           (λ past. c.loop-end.invariant.none k (omega arith) high)
-          (λ last. subst (λ n. ends_host t n ≡ false) (let same : c.loop-end.end ≡ k = omega arith in same) here)
+          (λ last. subst (λ n. ends_link t n ≡ false) (let same : c.loop-end.end ≡ k = omega arith in same) here)
           (cases_lt c.loop-end.end k);
     }
 
-pub returns-then-ends_host : goal.returns-then-ends_host
-returns-then-ends_host c =
+pub returns-then-ends_link : goal.returns-then-ends_link
+returns-then-ends_link c =
     let t = c.args.text.now in
     let begins : is_address_at t c.args.start ≡ true = cc in
-    let here : ends_host t c.loop-end.end ≡ true = cc in
+    let here : ends_link t c.loop-end.end ≡ true = cc in
     let upto = c.loop-end.invariant.upto in
     host_end-is t c.args.start c.host_stop-stop.result (Some c.loop-end.end) begins c.host_stop-stop.ensures.exact (omega arith, omega arith, here, c.loop-end.invariant.none)
 
@@ -35,4 +36,4 @@ returns c =
     let begins : is_address_at t c.args.start ≡ true = cc in
     let stop = c.host_stop-stop.result in
     host_end-is t c.args.start stop None begins c.host_stop-stop.ensures.exact
-    (NoneFrom-within (ends_host t) (c.loop-end.end + 1) (stop + 2) (c.args.start + 2) (stop + 2) (omega arith) (omega arith) c.loop-end.invariant.none)
+    (NoneFrom-within (ends_link t) (c.loop-end.end + 1) (stop + 2) (c.args.start + 2) (stop + 2) (omega arith) (omega arith) c.loop-end.invariant.none)

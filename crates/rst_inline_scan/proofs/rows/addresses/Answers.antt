@@ -22,6 +22,7 @@ returns c = record {
   dots = refl;
   underscores = refl;
   escapes = refl;
+  escaped_angle = refl;
   least_place = refl;
   whole = refl;
   not_whole = refl;

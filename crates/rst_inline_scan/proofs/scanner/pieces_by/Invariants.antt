@@ -9,7 +9,7 @@ decreases-loop-place l = length l.text - l.place
 
 abbrev pub invariant-loop-place : goal.invariant-loop-place
 invariant-loop-place l = record {
-  scanned : IsScanned false l.text l.from l.place l.escaped;
+  scanned : IsScanned false false l.text l.from l.place l.escaped;
   known : IsMissing l.text l.missing l.place;
-  gathered : Gathered false l.text l.from l.pieces.items;
+  gathered : Gathered false false l.text l.from l.pieces.items;
 }
