@@ -11,5 +11,7 @@ returns c = record {
   circle = (refl, refl);
   into_a_circle = refl;
   missing_name = (refl, refl);
+  alias_that_names_itself = refl;
+  no_step_to_an_alias = refl;
   left_to_a_later_transform = refl;
 }
