@@ -8,7 +8,6 @@ use Rattle.rst_tree.specs.declared.tag.Tag.{Tag}
 use Rattle.rst_tree.specs.declared.tag.Tag.TheVariants.{Topic}
 use Rattle.rst_tree.specs.Attributes.{as_number, as_text, value_of}
 use Rattle.rst_tree.specs.Walk.{Item}
-use Rattle.rst_tree_index.specs.Kinds.{is_target}
 use Rattle.rst_transform_names.specs.declared.names.NameEntry.{NameEntry}
 use Rattle.rst_transform_names.specs.declared.names.Holder.{Holder}
 use Rattle.rst_transform_names.specs.declared.names.Names.{Names}
@@ -25,9 +24,9 @@ is_topic _ = false
 abbrev pub is_table_of_contents : Item → Bool
 is_table_of_contents x = is_topic x.tag && is_some (as_number (value_of TextMessages x.attrs))
 
--- an element is a target that an embedded alias leaves: one in a text that refers to a name
+-- an embedded alias left a target: it is in a text, and refers to a name
 abbrev pub is_alias : Item → Bool
-is_alias x = is_target x.tag && (is_some (value_of Refname x.attrs) && is_some (value_of Inline x.attrs))
+is_alias target = is_some (value_of Refname target.attrs) && is_some (value_of Inline target.attrs)
 
 -- the name that a new element is to get, by what is known of names: of a table of contents none if something is known of the name already
 abbrev pub name_to_take : (List ℕ → Option NameEntry) → Item → List ℕ

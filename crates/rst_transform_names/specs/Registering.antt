@@ -6,7 +6,7 @@ use Rattle.std.specs.Str.{bytes_eq}
 use Rattle.rst_tree.specs.declared.key.Key.TheVariants.{Message}
 use Rattle.rst_tree.specs.declared.node.Node.{Node}
 use Rattle.rst_tree.specs.declared.tag.Tag.{Tag}
-use Rattle.rst_tree.specs.declared.tag.Tag.TheVariants.{Problematic, SystemMessage, SubstitutionDefinition}
+use Rattle.rst_tree.specs.declared.tag.Tag.TheVariants.{Problematic, SystemMessage, SubstitutionDefinition, Target}
 use Rattle.rst_tree.specs.Attributes.{as_number, value_of}
 use Rattle.rst_tree.specs.Paths.{map_at}
 use Rattle.rst_tree.specs.TagNames.{hyphenated, tag_name}
@@ -100,15 +100,16 @@ with_named new r =
 abbrev pub with_alias : Register → Register
 with_alias r = record r { standings = r.standings ++ standing (length r.standings) None false false ∷ []; name_messages = r.name_messages ++ None ∷ [] }
 
-abbrev pub with_own_name : Item → Register → Register
-with_own_name new r = if is_alias new then with_alias r else with_named new r
+abbrev pub with_target : Item → Register → Register
+with_target new r = if is_alias new then with_alias r else with_named new r
 
 -- an element, by its kind
 abbrev pub with_kind : Tag → Item → Register → Register
 with_kind Problematic = with_message_id
 with_kind SystemMessage = with_message_id
 with_kind SubstitutionDefinition = with_definition
-with_kind _ = with_own_name
+with_kind Target = with_target
+with_kind _ = with_named
 
 abbrev pub with_element : Item → Register → Register
 with_element new = with_kind new.tag new

@@ -21,10 +21,10 @@ pub fn is_table_of_contents(element: Element<'_>) -> bool
     element.tag == Tag::Topic && element.attrs.number(Key::TextMessages).is_some()
 }
 
-/// Whether an element is a target that an embedded alias leaves: one in a text that refers to a name.
+/// Whether an embedded alias left a target: it is in a text, and refers to a name.
 #[inline(always)]
-pub fn is_alias(element: Element<'_>) -> bool
-    ensures { result ≡ is_alias (item_of element.entry) }
+pub fn is_alias(target: Element<'_>) -> bool
+    ensures { result ≡ is_alias (item_of target.entry) }
 {
-    element.tag == Tag::Target && element.attrs.has(Key::Refname) && element.attrs.has(Key::Inline)
+    target.attrs.has(Key::Refname) && target.attrs.has(Key::Inline)
 }

@@ -5,7 +5,7 @@ ghost use Rattle.rst_tree_index.specs.Registered.{item_of};
 ghost use Rattle.rst_transform_names.specs.DuplicateMessages.{duplicate_definition, duplicate_name};
 ghost use Rattle.rst_transform_names.specs.Names as spec;
 ghost use Rattle.rst_transform_names.specs.Names.{entry_named, Knows};
-ghost use Rattle.rst_transform_names.specs.Registering.{all_registered, nothing_known, with_alias, with_definition, with_element, with_named, Holds, Makes};
+ghost use Rattle.rst_transform_names.specs.Registering.{all_registered, nothing_known, with_alias, with_definition, with_element, with_named, with_target, Holds, Makes};
 ghost use Rattle.rst_transform_names.specs.Registry.{strength_of, target_uri, known_by, losing, rule_named};
 
 use super::duplicate_messages::{duplicate_definition, duplicate_name};
@@ -77,7 +77,7 @@ impl Registry {
                 self.known_messages.add(alloc, new, number)
             }
             Tag::SubstitutionDefinition => self.define(alloc, new),
-            Tag::Target if is_alias(new) => self.pass(),
+            Tag::Target => self.target(alloc, new),
             _ => self.name(alloc, new),
         }
     }
@@ -107,8 +107,19 @@ impl Registry {
         Ok(())
     }
 
-    /// Registers a target that an alias leaves: it keeps its name, whoever else has it, and gets no id.
-    fn pass(&mut self) -> Result<()>
+    /// Registers a target.
+    fn target(&mut self, alloc: Global, new: Element<'_>) -> Result<()>
+        ensures { IfOk result (λ _. Makes (with_target (item_of new.entry)) self.old self.new) }
+    {
+        if is_alias(new) {
+            self.alias()
+        } else {
+            self.name(alloc, new)
+        }
+    }
+
+    /// Registers a target that an alias leaves: it has its name, whoever else has it, and no id.
+    fn alias(&mut self) -> Result<()>
         ensures { IfOk result (λ _. Makes with_alias self.old self.new) }
     {
         let serial = self.standings.len() as u64;

@@ -1,5 +1,6 @@
 -- The names of aliases: a phrase that refers to a name leaves a target with its own name (Markup Specification, 'Embedded URIs and Aliases').
 use Rattle.std.specs.Prelude.{ℕ, ◌&&◌, ◌||◌, Bool, false, List, [], if◌then◌else◌, is_some, nat_lt, Option, Some, None}
+use Rattle.std.specs.List.{range_with_len}
 use Rattle.rst_tree.specs.declared.key.Key.TheVariants.{Inline, OwnName, Serial}
 use Rattle.rst_tree.specs.declared.node.Node.{Node}
 use Rattle.rst_tree.specs.Paths.{node_value}
@@ -9,7 +10,7 @@ use Rattle.rst_transform_work.specs.Reading.{number_of_attribute, text_of_attrib
 use Rattle.rst_transform_references.specs.Chains.{indirect_name}
 use Rattle.rst_transform_references.specs.Footnotes.{entry_by, is_noted}
 use Rattle.rst_transform_references.specs.Holders.{holder_place}
-use Rattle.rst_transform_references.specs.Links.{all, node_at, places_of}
+use Rattle.rst_transform_references.specs.Links.{all, node_at}
 use Rattle.rst_transform_references.specs.Table.{Links}
 
 -- the name of an alias, by the target that it leaves: an indirect one in a text
@@ -30,11 +31,11 @@ abbrev pub held_by : (List ℕ → Bool) → (List ℕ → Option NameEntry) →
 held_by is_kept names (Some name) (Some serial) = if is_kept name then names else with_entry name (entry_by (Some serial) (Some [])) names
 held_by is_kept names _ _ = names
 
--- what is known of names once the alias at a place, if one is there, has its name, and once all aliases have theirs
+-- what is known of names once the alias at a place, if one is there, has its name, and once those before a place have theirs
 abbrev pub with_alias : List (Option ℕ) → Links → ℕ → (List ℕ → Option NameEntry) → List ℕ → Option NameEntry
 with_alias places links place names =
     let node : Node = node_at place links in
     held_by (λ name. keeps_name places links place (names name)) names (alias_name node) (number_of_attribute Serial node)
 
-abbrev pub with_aliases : List (Option ℕ) → Links → (List ℕ → Option NameEntry) → List ℕ → Option NameEntry
-with_aliases places links = all (with_alias places links) (places_of links)
+abbrev pub names_before : ℕ → List (Option ℕ) → Links → (List ℕ → Option NameEntry) → List ℕ → Option NameEntry
+names_before place places links = all (with_alias places links) (range_with_len 0 place)

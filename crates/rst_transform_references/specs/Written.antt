@@ -1,10 +1,10 @@
 -- Documents and footnotes that are written out, and what transforms of links make of them, for worked examples. No rule of markup.
 use Prim.Native.String.{String}
-use Rattle.std.specs.Prelude.{ℕ, List, [], ◌∷◌, codes, Option, option_map}
+use Rattle.std.specs.Prelude.{ℕ, List, [], ◌∷◌, codes, length, Option, option_map}
 use Rattle.rst_transform_work.specs.declared.document.Document.{Document}
 use Rattle.rst_transform_work.specs.Known.{Known}
 use Rattle.rst_transform_work.specs.Written.{knowing, plain_document}
-use Rattle.rst_transform_references.specs.Aliases.{with_aliases}
+use Rattle.rst_transform_references.specs.Aliases.{names_before}
 use Rattle.rst_transform_references.specs.Changes.{changed_document}
 use Rattle.rst_transform_references.specs.Links.{links_of}
 use Rattle.rst_transform_references.specs.Table.{Links}
@@ -26,7 +26,7 @@ alias serial = element Target (counts Inline 1 ∷ says OwnName "a" ∷ says Ref
 
 -- who holds the name `a` after aliases have got their names, by the places of elements by their numbers, by the elements and by the names that were known
 abbrev pub holder_after : List (Option ℕ) → List Node → List String → Option Holder
-holder_after places nodes names = option_map (λ (entry : NameEntry). entry.holder) (with_aliases places (links_of (plain_document nodes)) (knowing names).names (codes "a"))
+holder_after places nodes names = option_map (λ (entry : NameEntry). entry.holder) (names_before (length nodes) places (links_of (plain_document nodes)) (knowing names).names (codes "a"))
 
 -- what a transform of links makes of a document and of what is known
 abbrev pub transformed_by : (Links → Known → Links × Known) → List String → Document → Document × Known

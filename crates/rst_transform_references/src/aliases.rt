@@ -1,7 +1,7 @@
 //! The names of aliases: a phrase that refers to a name leaves a target with its own name.
 ghost use Rattle.std.specs.Prelude.{IfOk, ◌≡◌, MatchOption, None, Some};
 ghost use Rattle.rst_transform_names.specs.Names.{entry_named, AreRegistered};
-ghost use Rattle.rst_transform_references.specs.Aliases.{alias_name, keeps_name, with_alias, with_aliases};
+ghost use Rattle.rst_transform_references.specs.Aliases.{alias_name, keeps_name, with_alias};
 
 use crate::chains::is_indirect;
 use crate::footnotes::is_noted;
@@ -45,8 +45,8 @@ fn keeps_name(
     }
 }
 
-/// Lets the name of an alias mean it, if one is at this place.
-fn hold_alias(
+/// Lets the name of the alias at a place, if one is there, mean that alias (Markup Specification, 'Embedded URIs and Aliases').
+pub fn hold_alias(
     alloc: Global,
     names: &mut Names,
     places: &[Option<usize>],
@@ -72,19 +72,4 @@ fn hold_alias(
         uri: None,
     };
     names.hold(alloc, name, entry)
-}
-
-/// Lets the names of aliases mean them (Markup Specification, 'Embedded URIs and Aliases').
-pub fn hold_aliases(
-    alloc: Global,
-    names: &mut Names,
-    places: &[Option<usize>],
-    links: &Links<'_>,
-) -> Result<()>
-    ensures { IfOk result (λ _. AreRegistered names.new (with_aliases places.now links.now (entry_named names.old))) }
-{
-    for place in 0..links.len() {
-        hold_alias(alloc, names, places, links, place)?;
-    }
-    Ok(())
 }

@@ -1,14 +1,15 @@
 //! Indirect targets.
 ghost use Rattle.std.specs.Prelude.{IfOk, ◌≡◌, [], ◌∷◌, filter, length, map, replicate, option_map};
 ghost use Rattle.std.specs.List.{range_with_len};
-ghost use Rattle.rst_transform_names.specs.Names.{entry_named};
-ghost use Rattle.rst_transform_references.specs.Chains.{own_step, steps_of};
-ghost use Rattle.rst_transform_references.specs.Indirect.{all_conclude, all_lead, concludes, indirect, is_anonymous_at, is_reference_node, lists_now, missing_text, named_target, with_reference, references_to, targets_of};
+ghost use Rattle.rst_transform_names.specs.Names.{entry_named, AreRegistered};
+ghost use Rattle.rst_transform_references.specs.Aliases.{names_before};
+ghost use Rattle.rst_transform_references.specs.Chains.{own_step};
+ghost use Rattle.rst_transform_references.specs.Indirect.{all_conclude, all_lead, concludes, indirect, is_anonymous_at, is_reference_node, lists_now, missing_text, named_target, with_reference, references_to, steps_of, targets_of};
 ghost use Rattle.rst_transform_references.specs.Links.{each};
 ghost use Rattle.rst_transform_work.specs.Known.{Makes};
 ghost use Rattle.rst_transform_work.specs.Lists.{at_place};
 
-use crate::aliases::hold_aliases;
+use crate::aliases::hold_alias;
 use crate::chains::{Answer, Step, answers, indirect_name, is_indirect};
 use crate::failing::fail_for;
 use crate::holders::{holder_place, is_lost, named_place, places_by_number};
@@ -56,10 +57,8 @@ pub fn resolve_indirect(context: &mut Context, links: &mut Links<'_>) -> Result<
     }
     let alloc = context.alloc;
     let places = places_by_number(alloc, links, context.serials)?;
-    let steps = steps_of(alloc, &context.names, &places, links)?;
+    let steps = steps_of(alloc, &mut context.names, &places, links)?;
     let answers = answers(alloc, &steps)?;
-    // What a chain comes to doesn't depend on them.
-    hold_aliases(alloc, &mut context.names, &places, links)?;
     conclude_all(context, links, &places, &answers)
 }
 
@@ -111,19 +110,22 @@ fn own_step(
     }
 }
 
-/// The first step from each indirect target, by its place; there is nothing for the other elements.
+/// The first step from each indirect target, by its place; there is nothing for the other elements. It finds the aliases before it by their names,
+/// too. In the end all aliases have theirs.
 fn steps_of(
     alloc: Global,
-    names: &Names,
+    names: &mut Names,
     places: &[Option<usize>],
     links: &Links<'_>,
 ) -> Result<Vec<Option<Step>>>
-    ensures { IfOk result (λ steps. steps.items ≡ steps_of (entry_named names.now) places.now links.now) }
+    ensures steps { IfOk result (λ steps. steps.items ≡ steps_of (entry_named names.old) places.now links.now) }
+    ensures names { IfOk result (λ _. AreRegistered names.new (names_before (length links.now.linked) places.now links.now (entry_named names.old))) }
 {
     let mut steps = Vec::with_capacity(alloc, links.len())?;
     for place in 0..links.len() {
         let step = own_step(alloc, names, places, links, links.node(place))?;
         steps.push(step)?;
+        hold_alias(alloc, names, places, links, place)?;
     }
     Ok(steps)
 }

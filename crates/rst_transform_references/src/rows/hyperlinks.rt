@@ -116,8 +116,12 @@ pub fn chains()
     ensures alias_that_names_itself { Shows (transformed_by indirect ("a" ∷ "" ∷ []) (plain_document (element Target (counts Inline 1 ∷ says OwnName "a"
         ∷ says Refname "a" ∷ counts Serial 1 ∷ []) [] ∷ element Target (says Refuri "u" ∷ counts Serial 0 ∷ []) [] ∷ []))).0
         ("<document>" ∷ "    <target refuri=\"u\">" ∷ "    <target refuri=\"u\">" ∷ []) }
-    ensures no_step_to_an_alias { map (λ r. r.text) (transformed_by indirect ("c" ∷ "" ∷ "b" ∷ []) (plain_document (element Target (counts Inline 1 ∷ says OwnName "a"
-        ∷ says Refname "c" ∷ counts Serial 1 ∷ []) [] ∷ element Target (says OwnName "b" ∷ says Refname "a" ∷ counts Serial 2 ∷ []) [] ∷ []))).1.reports
+    ensures step_to_an_alias_before { Shows (transformed_by indirect ("c" ∷ "" ∷ "b" ∷ []) (plain_document (element Target (counts Inline 1 ∷ says OwnName "a"
+        ∷ says Refname "c" ∷ counts Serial 1 ∷ []) [] ∷ element Target (says OwnName "b" ∷ says Refname "a" ∷ counts Serial 2 ∷ []) []
+        ∷ element Target (says Refuri "u" ∷ counts Serial 0 ∷ []) [] ∷ []))).0
+        ("<document>" ∷ "    <target refuri=\"u\">" ∷ "    <target refuri=\"u\">" ∷ "    <target refuri=\"u\">" ∷ []) }
+    ensures no_step_to_an_alias_after { map (λ r. r.text) (transformed_by indirect ("c" ∷ "" ∷ "b" ∷ []) (plain_document (element Target (says OwnName "b" ∷ says Refname "a" ∷ counts Serial 2
+        ∷ []) [] ∷ element Target (counts Inline 1 ∷ says OwnName "a" ∷ says Refname "c" ∷ counts Serial 1 ∷ []) [] ∷ []))).1.reports
         ≡ codes "Indirect hyperlink target \"b\" refers to target \"a\", which does not exist." ∷ [] }
     ensures left_to_a_later_transform { Shows (transformed_by indirect ("a" ∷ "b" ∷ []) (plain_document (element Reference (says Refname "a" ∷ []) []
         ∷ element Target (counts Serial 0 ∷ says Refname "b" ∷ []) [] ∷ element Target (counts Serial 1 ∷ says Refuri "u" ∷ []) [] ∷ []))).0

@@ -12,6 +12,7 @@ returns c = record {
   into_a_circle = refl;
   missing_name = (refl, refl);
   alias_that_names_itself = refl;
-  no_step_to_an_alias = refl;
+  step_to_an_alias_before = refl;
+  no_step_to_an_alias_after = refl;
   left_to_a_later_transform = refl;
 }

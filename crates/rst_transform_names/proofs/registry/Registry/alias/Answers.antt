@@ -1,6 +1,6 @@
 use Rattle.std.proofs.Common.{◌≡◌, arith, ◌∷◌, ◌++◌, [], None, false, length, ap, ap₂, ◌∙◌}
 use Rattle.rst_transform_names.specs.Registry.{standing}
-use Rattle.rst_transform_names.proofs.registry.Registry.pass.Goals as goal
+use Rattle.rst_transform_names.proofs.registry.Registry.alias.Goals as goal
 
 pub returns : goal.returns
 returns c = λ r h.
