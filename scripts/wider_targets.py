@@ -66,6 +66,40 @@ TARGETS = [
 """,
     ),
     (
+        "targets of aliases",
+        "`A <b_>`_ a_ `a <c_>`_ `<b_>`_ `d <b_>`__ c_\n\n.. _b: u\n.. _c:\n\nText.\n\n.. _a: v\n",
+        """\
+<document source="<stdin>">
+    <paragraph>
+        <reference name="A" refuri="u">
+            A
+        <target names="a" refuri="u">
+         
+        <reference name="a" refuri="u">
+            a
+         
+        <reference name="a" refid="c">
+            a
+        <target names="a" refid="c">
+         
+        <reference name="b" refuri="u">
+            b
+        <target names="b" refuri="u">
+         
+        <reference name="d" refuri="u">
+            d
+         
+        <reference name="c" refid="c">
+            c
+    <target ids="b" names="b" refuri="u">
+    <target refid="c">
+    <paragraph ids="c" names="c">
+        Text.
+    <target ids="a" names="a" refuri="v">
+""",
+        "",
+    ),
+    (
         "a name that two targets have",
         "One.\n\n.. _t:\n\nTwo.\n\n.. _t:\n\nThree.\n",
         """\

@@ -125,15 +125,20 @@ module _ (P : ℕ → Bool) (T : List ℕ → Type 0) (s : Suited P T) (parts : 
     substituted_fits Anonymous inner shown h own = (omega arith, ((tt, (s.encoded _ whole, tt)), (own.1.0, own.1.1, tt)))
     substituted_fits _ inner shown h own = (omega arith, ((s.encoded _ whole, (name_has P T s shown h, tt)), (own.1.0, own.1.1, tt)))
 
-    embedded_fits : (suffix : Suffix) (shown meaning : Text) (alias : Bool) → Kept P shown → Kept P meaning → MeaningFits nodes_by notes_by (embedded_reading suffix (source t p) shown meaning alias line)
-    embedded_fits suffix shown meaning true h k = ((reference_fits Named shown meaning h k, tt), tt)
-    embedded_fits Named shown meaning false h k =
+    embedded_fits : (asked : Bool) (suffix : Suffix) (shown meaning : Text) (alias : Bool) → Kept P shown → Kept P meaning
+        → MeaningFits nodes_by notes_by (embedded_reading asked suffix (source t p) shown meaning alias line)
+    embedded_fits asked Named shown meaning true h k =
+        let own = reference_fits Named shown meaning h k in
+        cond_both asked _ _ (MeaningFits nodes_by notes_by) (λ _. ((own, ((omega arith, ((tt, (name_has P T s shown h, (name_has P T s meaning k, tt))), tt)), tt)), tt))
+        (λ _. ((own, tt), tt))
+    embedded_fits _ _ shown meaning true h k = ((reference_fits Named shown meaning h k, tt), tt)
+    embedded_fits _ Named shown meaning false h k =
         let w = held 1 IsReference shown h in (((w.0, ((tt, (s.encoded _ whole, (tt, tt))), w.1)), ((omega arith, ((tt, (name_has P T s shown h, (tt, tt))), tt)), tt)), tt)
-    embedded_fits _ shown meaning false h k = let w = held 1 IsReference shown h in (((w.0, ((tt, (s.encoded _ whole, (tt, tt))), w.1)), tt), tt)
+    embedded_fits _ _ shown meaning false h k = let w = held 1 IsReference shown h in (((w.0, ((tt, (s.encoded _ whole, (tt, tt))), w.1)), tt), tt)
 
-    phrase_fits : (suffix : Suffix) (phrase : Text) (o : Option ℕ) → Kept P phrase → MeaningFits nodes_by notes_by (phrase_reading_at parts.mail suffix (source t p) phrase o line)
+    phrase_fits : (suffix : Suffix) (phrase : Text) (o : Option ℕ) → Kept P phrase → MeaningFits nodes_by notes_by (phrase_reading_at parts suffix (source t p) phrase o line)
     phrase_fits suffix phrase (Some k) h =
-        embedded_fits suffix _ _ (is_alias (enclosed phrase k)) (shown_kept phrase k h) (meant_kept (enclosed phrase k) (part_kept P phrase (k + 1) (length phrase - 1) h))
+        embedded_fits parts.unmarked suffix _ _ (is_alias (enclosed phrase k)) (shown_kept phrase k h) (meant_kept (enclosed phrase k) (part_kept P phrase (k + 1) (length phrase - 1) h))
     phrase_fits suffix phrase None h = ((reference_fits suffix _ _ (unescaped_kept P phrase h) (unescaped_kept P phrase h), tt), tt)
 
     label_fits : (label : Text) → Kept P label → Fits T 3 (label_reference_node (source t p) label line)

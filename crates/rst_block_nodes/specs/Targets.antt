@@ -58,9 +58,10 @@ is_plain_role _ = false
 abbrev pub may_refer : List Attr → Forest → Bool
 may_refer a c = not (is_some (value_of Anonymous a)) && not (list_any is_substitution_reference_node (nodes_of c))
 
--- an element is allowed there: a reference by its attributes and nodes, any other by its kind
+-- an element is allowed there: a reference by its attributes and nodes, a target if it refers to a name, any other by its kind
 abbrev pub may_stand_as : Tag → List Attr → Forest → Bool
 may_stand_as Reference a c = may_refer a c
+may_stand_as Target a c = is_some (value_of Refname a)
 may_stand_as t a c = is_plain_role t
 
 -- a node is allowed there; a text always is

@@ -90,8 +90,8 @@ pub fn substitution_definition(alloc: Global, name: &str, line: usize) -> Result
 }
 
 /// Whether these nodes of a text may replace a substitution reference (Docutils, Directives, 'Replacement
-/// Text'): text, plain roles, substitution references, and references that aren't anonymous and don't contain a
-/// substitution reference.
+/// Text'): text, plain roles, substitution references, references that aren't anonymous and don't contain a
+/// substitution reference, and the targets that aliases leave, which refer to names.
 pub fn may_replace(nodes: &[Node]) -> bool
     ensures { result ≡ may_replace nodes.now }
 {
@@ -111,6 +111,11 @@ fn may_stand(node: &Node) -> bool
             children,
             ..
         } => !attrs.has(Key::Anonymous) && !has_substitution(children.as_slice()),
+        Node::Element {
+            tag: Tag::Target,
+            attrs,
+            ..
+        } => attrs.has(Key::Refname),
         Node::Element { tag, .. } => matches!(
             tag,
             Tag::Abbreviation

@@ -3,6 +3,7 @@ use Rattle.std.proofs.Common.{◌≡◌, ℕ, ◌+◌, ◌-◌, ◌<◌, ◌≤�
 use Rattle.std.specs.List.{list_any}
 use Rattle.std.proofs.lemmas.Bool.{lt-ltb, ltb-true, and_parts, or_parts, cond_both}
 use Rattle.std.proofs.lemmas.List.{drop-take, drop-drop, take-take, length-take-le, length-drop}
+use Rattle.rst_settings.specs.declared.Parts.{Parts}
 use Rattle.rst_text.specs.Characters.{is_white, Text, has, without_white}
 use Rattle.rst_text.specs.Places.{last_from, IsLast}
 use Rattle.rst_text.proofs.PlacesLemmas.{last_from-is}
@@ -106,8 +107,8 @@ before-part t p end within h =
     let from : p.content_from + 0 ≡ p.content_from = omega arith in
     sym (part-part t p.content_from p.content_to 0 end (omega (arith, length-part t p.content_from p.content_to ends)) ∙ ap (λ from. part t from (p.content_from + end)) from)
 
-pub phrase-embedded : (mail : Bool) (suffix : Suffix) (from phrase source display_text meaning : Text) (place line : ℕ) (alias : Bool) → source ≡ from → display_text ≡ phrase_display_text mail phrase place
-    → meaning ≡ meant mail (enclosed phrase place) → alias ≡ is_alias (enclosed phrase place) → Some place ≡ embedded_at phrase
-    → embedded_reading suffix source display_text meaning alias line ≡ phrase_reading mail suffix from phrase line
-phrase-embedded mail suffix from phrase source display_text meaning place line alias first second third fourth at =
-    rw (first, second, third, fourth) (ap (λ place. phrase_reading_at mail suffix from phrase place line) at)
+pub phrase-embedded : (parts : Parts) (suffix : Suffix) (from phrase source display_text meaning : Text) (place line : ℕ) (alias : Bool) → source ≡ from → display_text ≡ phrase_display_text parts.mail phrase place
+    → meaning ≡ meant parts.mail (enclosed phrase place) → alias ≡ is_alias (enclosed phrase place) → Some place ≡ embedded_at phrase
+    → embedded_reading parts.unmarked suffix source display_text meaning alias line ≡ phrase_reading parts suffix from phrase line
+phrase-embedded parts suffix from phrase source display_text meaning place line alias first second third fourth at =
+    rw (first, second, third, fourth) (ap (λ place. phrase_reading_at parts suffix from phrase place line) at)

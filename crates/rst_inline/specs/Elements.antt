@@ -71,6 +71,10 @@ inline_target_node display_text line = text_element Target (attr Inline (Number 
 abbrev pub uri_target_node : Text → Text → ℕ → Node
 uri_target_node display_text uri line = Element Target (attr Inline (Number 1) ∷ attr OwnName (text_value (name_of display_text)) ∷ attr Refuri (text_value uri) ∷ []) bare line
 
+-- that which an embedded alias leaves: it refers to the same name
+abbrev pub alias_target_node : Text → Text → ℕ → Node
+alias_target_node display_text name line = Element Target (attr Inline (Number 1) ∷ attr OwnName (text_value (name_of display_text)) ∷ attr Refname (text_value (name_of name)) ∷ []) bare line
+
 -- ---- substitutions
 
 -- a substitution reference, which refers to a definition by the name that is displayed

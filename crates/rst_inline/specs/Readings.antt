@@ -3,6 +3,7 @@
 use Rattle.std.specs.Prelude.{ℕ, ◌+◌, ◌-◌, Bool, true, false, nat_lt, List, [], ◌∷◌, ◌++◌, Option, None, Some, codes, if◌then◌else◌}
 use Rattle.rst_settings.specs.Parts.{hands_role}
 use Rattle.rst_settings.specs.declared.Parts.{Parts}
+use Rattle.rst_tree.specs.declared.node.Node.{Node}
 use Rattle.rst_tree.specs.declared.node.Node.TheVariants.{Text as Words}
 use Rattle.rst_tree.specs.declared.note.Level.TheVariants.{Warning, Error}
 use Rattle.rst_tree.specs.declared.phrase.Phrase.{Phrase}
@@ -27,7 +28,7 @@ use Rattle.rst_inline.specs.declared.roles.Role.TheVariants.{Element, Pep, Rfc, 
 use Rattle.rst_inline.specs.Roles.{role_named}
 use Rattle.rst_inline.specs.Numbers.{pep_reading, rfc_reading}
 use Rattle.rst_inline.specs.Embedded.{embedded_at, enclosed, is_alias, meant, phrase_display_text}
-use Rattle.rst_inline.specs.Elements.{text_element, reference_node, uri_node, address_node, embedded_node, inline_target_node, uri_target_node, substituted_node, label_reference_node, code_node, handed_node}
+use Rattle.rst_inline.specs.Elements.{text_element, reference_node, uri_node, address_node, embedded_node, alias_target_node, inline_target_node, uri_target_node, substituted_node, label_reference_node, code_node, handed_node}
 
 -- ---- messages
 
@@ -73,20 +74,28 @@ abbrev pub plain_reading : Text → Meaning
 plain_reading [] = Nothing
 plain_reading (c ∷ cs) = One (Words (text_bytes (c ∷ cs)))
 
--- A phrase with an embedded alias refers to a name; one with an embedded URI leaves a target, too, unless it is anonymous.
-abbrev pub embedded_reading : Suffix → Text → Text → Text → Bool → ℕ → Meaning
-embedded_reading suffix source display_text meaning true line = One (reference_node Named source display_text meaning line)
-embedded_reading Named source display_text meaning false line = Two (forest_of (embedded_node source display_text meaning line ∷ uri_target_node display_text meaning line ∷ []))
-embedded_reading suffix source display_text meaning false line = One (embedded_node source display_text meaning line)
+-- a reference, and the target that it leaves
+abbrev pub leaving : Node → Node → Meaning
+leaving reference target = Two (forest_of (reference ∷ target ∷ []))
+
+-- A phrase with an embedded alias refers to a name, one with an embedded URI to that. It leaves a target, too, unless it is anonymous; for an alias
+-- only if that is asked for.
+abbrev pub embedded_reading : Bool → Suffix → Text → Text → Text → Bool → ℕ → Meaning
+embedded_reading asked Named source display_text meaning true line =
+    let reference = reference_node Named source display_text meaning line in if asked then leaving reference (alias_target_node display_text meaning line) else One reference
+embedded_reading asked suffix source display_text meaning true line = One (reference_node Named source display_text meaning line)
+embedded_reading asked Named source display_text meaning false line = leaving (embedded_node source display_text meaning line) (uri_target_node display_text meaning line)
+embedded_reading asked suffix source display_text meaning false line = One (embedded_node source display_text meaning line)
 
 -- a phrase that is a reference, with the place of what is embedded in it, if there is something
-abbrev pub phrase_reading_at : Bool → Suffix → Text → Text → Option ℕ → ℕ → Meaning
-phrase_reading_at mail suffix source phrase (Some k) line = embedded_reading suffix source (phrase_display_text mail phrase k) (meant mail (enclosed phrase k)) (is_alias (enclosed phrase k)) line
-phrase_reading_at mail suffix source phrase None line = One (reference_node suffix source (unescaped phrase) (unescaped phrase) line)
+abbrev pub phrase_reading_at : Parts → Suffix → Text → Text → Option ℕ → ℕ → Meaning
+phrase_reading_at parts suffix source phrase (Some k) line =
+    embedded_reading parts.unmarked suffix source (phrase_display_text parts.mail phrase k) (meant parts.mail (enclosed phrase k)) (is_alias (enclosed phrase k)) line
+phrase_reading_at parts suffix source phrase None line = One (reference_node suffix source (unescaped phrase) (unescaped phrase) line)
 
 -- a phrase that is a reference
-abbrev pub phrase_reading : Bool → Suffix → Text → Text → ℕ → Meaning
-phrase_reading mail suffix source phrase line = phrase_reading_at mail suffix source phrase (embedded_at phrase) line
+abbrev pub phrase_reading : Parts → Suffix → Text → Text → ℕ → Meaning
+phrase_reading parts suffix source phrase line = phrase_reading_at parts suffix source phrase (embedded_at phrase) line
 
 -- interpreted text with a role of this name, from its source and its text as it is written
 abbrev pub role_reading_by : Option Role → List ℕ → Text → Text → ℕ → Meaning
@@ -134,8 +143,8 @@ interpreted_reading parts true Named t p line = role_mismatch
 interpreted_reading parts true Anonymous t p line = role_mismatch
 interpreted_reading parts false Bare t p line = default_reading parts (source t p) (content t p) line
 interpreted_reading parts false RoleAfter t p line = role_reading parts (suffix_role t p) (source t p) (content t p) line
-interpreted_reading parts false Named t p line = phrase_reading parts.mail Named (source t p) (content t p) line
-interpreted_reading parts false Anonymous t p line = phrase_reading parts.mail Anonymous (source t p) (content t p) line
+interpreted_reading parts false Named t p line = phrase_reading parts Named (source t p) (content t p) line
+interpreted_reading parts false Anonymous t p line = phrase_reading parts Anonymous (source t p) (content t p) line
 
 -- What a piece of a kind means, by the parts of the wider profile that hold. Markup with both its strings means what it encloses, without escapes unless it is a literal, in an element of
 -- its kind. A start-string without an end gives a warning.

@@ -6,11 +6,12 @@ ghost use Rattle.rst_text.specs.Escapes.{unescaped};
 ghost use Rattle.rst_inline_scan.specs.Pieces.{IsWithin};
 ghost use Rattle.rst_tree.specs.Attributes.{are_keys_in_order};
 ghost use Rattle.rst_tree.specs.declared.note.Level.TheVariants.{Error};
+ghost use Rattle.rst_tree.specs.declared.tag.Tag.TheVariants.{Target};
 ghost use Rattle.rst_inline.specs.declared.reading.Meaning.TheVariants.{One, Wrong};
 ghost use Rattle.rst_inline.specs.Elements.{text_element, reference_node, inline_target_node, label_reference_node, substituted_node, link_node, uri_node, address_node, code_node};
 ghost use Rattle.rst_inline.specs.Embedded.{meant, phrase_display_text};
 ghost use Rattle.rst_inline.specs.Parts.{part, source, content};
-ghost use Rattle.rst_inline.specs.Readings.{handed_role, plain_meaning, plain_reading, embedded_reading, phrase_reading, role_reading, has_prefix_role, interpreted_reading, reading};
+ghost use Rattle.rst_inline.specs.Readings.{handed_role, leaving, plain_meaning, plain_reading, embedded_reading, phrase_reading, role_reading, has_prefix_role, interpreted_reading, reading};
 
 use super::elements::{element, handed};
 use super::embedded::{dark_end, embedded_at, is_alias};
@@ -182,6 +183,18 @@ impl Written<'_> {
         self.unescaped(piece.content_from, piece.content_from + end)
     }
 
+    /// A reference, and the target with these attributes that it leaves.
+    #[tactic(auto, using(crate::proofs::TextLemmas::no_characters))]
+    #[inline(always)]
+    fn with_target(&self, reference: Node, attrs: Vec<Entry>) -> Result<Meaning>
+        requires { are_keys_in_order attrs.items ≡ true }
+        ensures { IfOk result (λ reading. reading ≡ leaving reference (text_element Target attrs.items [] self.now.line)) }
+    {
+        let target = element(self.alloc, Tag::Target, attrs, "", self.line)?;
+        let nodes = vec![in self.alloc; reference, target]?;
+        Ok(Meaning::Two(Children::of(nodes)))
+    }
+
     /// A phrase with an embedded URI or alias.
     #[tactic(auto, using(crate::proofs::TextLemmas::no_characters))]
     fn embedded(
@@ -192,7 +205,7 @@ impl Written<'_> {
         meaning: &str,
         is_alias: bool,
     ) -> Result<Meaning>
-        ensures { IfOk result (λ reading. reading ≡ embedded_reading suffix (chars source.now) (chars display_text.now) (chars meaning.now) is_alias self.now.line) }
+        ensures { IfOk result (λ reading. reading ≡ embedded_reading self.now.parts.now.unmarked suffix (chars source.now) (chars display_text.now) (chars meaning.now) is_alias self.now.line) }
     {
         if is_alias {
             let own = normalized_value(self.alloc, display_text)?;
@@ -200,12 +213,22 @@ impl Written<'_> {
             let refname = name_value(self.alloc, meaning)?;
             let attrs = named_attrs(self.alloc, own, written, refname)?;
             let node = element(self.alloc, Tag::Reference, attrs, display_text, self.line)?;
-            return Ok(Meaning::One(node));
+            return match suffix {
+                Suffix::Named if self.parts.unmarked => {
+                    let own_name = name_value(self.alloc, display_text)?;
+                    let attrs = vec![in self.alloc;
+                        Entry::new(Key::Inline, Value::Number(1)),
+                        Entry::new(Key::OwnName, own_name),
+                        Entry::new(Key::Refname, name_value(self.alloc, meaning)?),
+                    ]?;
+                    self.with_target(node, attrs)
+                }
+                _ => Ok(Meaning::One(node)),
+            };
         }
         let node = embedded_reference(self.alloc, source, display_text, meaning, self.line)?;
         match suffix {
             Suffix::Named => {
-                // The target that it leaves, named by the phrase.
                 let name = name_value(self.alloc, display_text)?;
                 let uri = text_value(self.alloc, meaning)?;
                 let attrs = vec![in self.alloc;
@@ -213,9 +236,7 @@ impl Written<'_> {
                     Entry::new(Key::OwnName, name),
                     Entry::new(Key::Refuri, uri),
                 ]?;
-                let target = element(self.alloc, Tag::Target, attrs, "", self.line)?;
-                let nodes = vec![in self.alloc; node, target]?;
-                Ok(Meaning::Two(Children::of(nodes)))
+                self.with_target(node, attrs)
             }
             _ => Ok(Meaning::One(node)),
         }
@@ -224,7 +245,7 @@ impl Written<'_> {
     /// A phrase that is a reference.
     fn phrase(&self, suffix: Suffix, piece: Piece) -> Result<Meaning>
         requires { IsWithin self.now.characters.items piece }
-        ensures { IfOk result (λ reading. reading ≡ phrase_reading self.now.parts.now.mail suffix (source self.now.characters.items piece) (content self.now.characters.items piece) self.now.line) }
+        ensures { IfOk result (λ reading. reading ≡ phrase_reading self.now.parts.now suffix (source self.now.characters.items piece) (content self.now.characters.items piece) self.now.line) }
     {
         let source = self.part(piece.from, piece.to);
         let phrase = part(&self.characters, piece.content_from, piece.content_to);

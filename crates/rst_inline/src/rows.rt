@@ -152,6 +152,15 @@ pub fn registered_uris()
     ensures base { Shows "http:a ssh://x" ("http:a ssh://x" ∷ []) }
 {}
 
+/// Aliases that leave targets (Markup Specification, 'Embedded URIs and Aliases').
+pub fn aliases()
+    ensures named { ShowsWider "`A  B <C d_>`_"
+        ("<reference name=\"A B\" rawsource=\"`A  B <C d_>`_\" refname=\"c d\">" ∷ "    A  B" ∷ "<target inline=\"1\" own_name=\"a b\" refname=\"c d\">"
+        ∷ []) }
+    ensures alone { ShowsWider "`<B_>`_" ("<reference name=\"B\" rawsource=\"`<B_>`_\" refname=\"b\">" ∷ "    B" ∷ "<target inline=\"1\" own_name=\"b\" refname=\"b\">" ∷ []) }
+    ensures anonymous { ShowsWider "`A <b_>`__" ("<reference name=\"A\" rawsource=\"`A <b_>`__\" refname=\"b\">" ∷ "    A" ∷ []) }
+{}
+
 /// E-mail addresses, alone and in phrases (Markup Specification, 'Standalone Hyperlinks').
 pub fn addresses()
     ensures alone { ShowsWider "to me@example.org." ("to " ∷ "<reference rawsource=\"me@example.org\" refuri=\"mailto:me@example.org\">" ∷ "    me@example.org" ∷ "." ∷ []) }
@@ -163,7 +172,7 @@ pub fn addresses()
     ensures embedded_alone { ShowsWider "`<me@a.org>`__" ("<reference name=\"mailto:me@a.org\" rawsource=\"`<me@a.org>`__\" refuri=\"mailto:me@a.org\">" ∷ "    mailto:me@a.org" ∷ []) }
     ensures white { ShowsWider "`A <me@a.org x>`__" ("<reference name=\"A\" rawsource=\"`A <me@a.org x>`__\" refuri=\"mailto:me@a.orgx\">" ∷ "    A" ∷ []) }
     ensures no_address { ShowsWider "`A <é@a.org>`__" ("<reference name=\"A\" rawsource=\"`A <é@a.org>`__\" refuri=\"é@a.org\">" ∷ "    A" ∷ []) }
-    ensures alias { ShowsWider "`A <me@a.org_>`_" ("<reference name=\"A\" rawsource=\"`A <me@a.org_>`_\" refname=\"me@a.org\">" ∷ "    A" ∷ []) }
+    ensures alias { ShowsWider "`A <me@a.org_>`__" ("<reference name=\"A\" rawsource=\"`A <me@a.org_>`__\" refname=\"me@a.org\">" ∷ "    A" ∷ []) }
     ensures phrase { ShowsWider "`me@a.org`_" ("<reference name=\"me@a.org\" rawsource=\"`me@a.org`_\" refname=\"me@a.org\">" ∷ "    me@a.org" ∷ []) }
 {}
 

@@ -28,14 +28,15 @@ use Rattle.rst_transform_references.specs.declared.links.Change.{Change}
 use Rattle.rst_transform_references.specs.declared.links.Change.TheVariants.{Stays, Lists, Failed}
 use Rattle.rst_transform_references.specs.declared.orders.Order.{Order}
 use Rattle.rst_transform_references.specs.declared.orders.Order.TheVariants.{Anonymous, Numbers, Symbols}
+use Rattle.rst_transform_references.specs.Aliases.{names_before}
 use Rattle.rst_transform_references.specs.Anonymous.{anonymous, lead_to}
 use Rattle.rst_transform_references.specs.Changes.{changed_document}
-use Rattle.rst_transform_references.specs.Chains.{answers_of, comes_to, indirect_name, step_on, step_to, steps_of}
+use Rattle.rst_transform_references.specs.Chains.{answers_of, comes_to, indirect_name, step_on, step_to}
 use Rattle.rst_transform_references.specs.Failing.{fail_for, fails_as}
 use Rattle.rst_transform_references.specs.FootnoteLabels.{labels, numbered, symbol_label, symbols}
 use Rattle.rst_transform_references.specs.Footnotes.{footnotes, is_of_footnotes, label_at, labelled, left_over, new_text, printed_label, refer_by}
 use Rattle.rst_transform_references.specs.Holders.{holder_place, is_nobody, places_by_number}
-use Rattle.rst_transform_references.specs.Indirect.{concludes, indirect, is_anonymous_at, is_reference_node, own_name, references_to, targets_of}
+use Rattle.rst_transform_references.specs.Indirect.{concludes, indirect, is_anonymous_at, is_reference_node, own_name, references_to, steps_of, targets_of}
 use Rattle.rst_transform_references.specs.Leads.{found_lead, is_target_node, kept_lead, lead_at, lead_by, name_lead}
 use Rattle.rst_transform_references.specs.Links.{change_at, each, linked_among, links_of, node_at, own_linked, places_of, puts}
 use Rattle.rst_transform_references.specs.Orders.{is_order, pairs_by, references_by, target_order, targets_by}
@@ -171,11 +172,12 @@ module _ (P : ℕ → Bool) (T : List ℕ → Type 0) (s : Suited P T) (signs : 
   indirect_keeps : Keeps indirect
   unfolding indirect
   indirect_keeps (links, known) h = let places : List (Option ℕ) = places_by_number known.serials links in let steps : List (Option Step) = steps_of known.names places links in
-      let steps_have : (i : ℕ) → StepHas (at_place steps i) = place_has StepHas _ tt (λ place. on_some T (λ o. StepHas (option_map (λ name. step_to places links name (known.names name)) o)) tt
-      (λ name. step_has places links name (known.names name) h.0) _ (if_has T (is_target_node (node_at place links)) _ (text_has Refname refl _ (node_has place links h.0)))) (places_of links) in
+      let steps_have : (i : ℕ) → StepHas (at_place steps i) = place_has StepHas _ tt (λ place. on_some T (λ o. StepHas (option_map (λ name. step_to places links name (names_before place places links known.names name)) o)) tt
+      (λ name. step_has places links name (names_before place places links known.names name) h.0) _ (if_has T (is_target_node (node_at place links)) _ (text_has Refname refl _ (node_has place links h.0)))) (places_of links) in
+      let named : Known = record known { names = names_before (length links.linked) places links known.names } in let targets : List (Option ℕ) = targets_of named.names places links in
       cond_both (list_any (λ place. is_some (indirect_name (node_at place links))) (places_of links)) _ _ StateHas
-      (λ _. fold_keeps StateHas _ (range_with_len 0 (length (targets_of known.names places links))) (λ place. concludes_keeps place (references_to (targets_of known.names places links) place) (at_place (answers_of steps) place)
-      (place_has AnswerHas _ tt (λ at. comes_has steps steps_have (length steps) (at_place steps at) (steps_have at)) _ place)) (links, known) h) (λ _. h)
+      (λ _. fold_keeps StateHas _ (range_with_len 0 (length targets)) (λ place. concludes_keeps place (references_to targets place) (at_place (answers_of steps) place)
+      (place_has AnswerHas _ tt (λ at. comes_has steps steps_have (length steps) (at_place steps at) (steps_have at)) _ place)) (links, named) h) (λ _. h)
 
   -- ---- footnotes
 

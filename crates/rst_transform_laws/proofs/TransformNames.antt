@@ -12,7 +12,7 @@ use Rattle.rst_tree.specs.declared.node.Node.TheVariants.{Element, Text}
 use Rattle.rst_tree.specs.declared.note.Level.{Level}
 use Rattle.rst_tree.specs.declared.note.Level.TheVariants.{Error}
 use Rattle.rst_tree.specs.declared.tag.Tag.{Tag}
-use Rattle.rst_tree.specs.declared.tag.Tag.TheVariants.{Paragraph, Problematic, SubstitutionDefinition, SystemMessage}
+use Rattle.rst_tree.specs.declared.tag.Tag.TheVariants.{Paragraph, Problematic, SubstitutionDefinition, SystemMessage, Target}
 use Rattle.rst_tree.specs.Messages.{note_attrs}
 use Rattle.rst_tree.specs.Forest.{Forest, bare, element, words}
 use Rattle.rst_tree.specs.Nodes.{forest_of, join_node, node_height}
@@ -25,8 +25,8 @@ use Rattle.rst_transform_names.specs.declared.queue.Queued.TheVariants.{Present,
 use Rattle.rst_transform_names.specs.DuplicateMessages.{duplicate_words}
 use Rattle.rst_transform_names.specs.Ids.{id_for}
 use Rattle.rst_transform_names.specs.NameMessages.{after_next, before_next, beginning, counted, filled, first_queue, goes_out, is_inline, is_passed_over, is_section, message_on, own_message, taken, takes_in, with_due, with_filled_element, with_own, Filled, Queue}
-use Rattle.rst_transform_names.specs.Names.{name_to_take, own_name}
-use Rattle.rst_transform_names.specs.Registering.{all_registered, nothing_known, registered, registration, with_kind, Register}
+use Rattle.rst_transform_names.specs.Names.{is_alias, name_to_take, own_name}
+use Rattle.rst_transform_names.specs.Registering.{all_registered, nothing_known, registered, registration, with_alias, with_kind, with_named, Register}
 use Rattle.rst_transform_names.specs.Registry.{rule_named}
 use Rattle.rst_transform_names.specs.Written.{attrs_given, given, left_after, message_id, message_ids_of, problematic_id, with_backrefs, with_first, with_given, with_id, with_name, with_refid, with_standing, Given, name_got}
 use Rattle.rst_transform_work.specs.States.{document_in}
@@ -175,17 +175,22 @@ module _ (P : ℕ → Bool) (T : List ℕ → Type 0) (s : Suited P T) where
     note_mapped : {A : Type 0} (f : A → Node) (o : Option A) → ((x : A) → Within 3 (f x)) → Each 3 (option_to_list (option_map f o))
     note_mapped f o fits = elim o as (λ o. Each 3 (option_to_list (option_map f o))) [ None ↦ tt | Some x ↦ (fits x, tt) ]
 
-    kind_fits : (t : Tag) (new : Item) (r : Register) → (Has → AttrsHave T new.attrs) → Notes r.name_messages → Notes (with_kind t new r).name_messages
-    kind_fits Problematic new r has e = e
-    kind_fits SystemMessage new r has e = e
-    kind_fits SubstitutionDefinition new r has e =
-        all_append _ r.name_messages _ e (note_mapped _ (r.definitions (own_name new)) (λ n. note_fits [] Error (codes "Duplicate substitution definition name: \"") new refl has), tt)
-    kind_fits _ new r has e =
+    named_fits : (new : Item) (r : Register) → (Has → AttrsHave T new.attrs) → Notes r.name_messages → Notes (with_named new r).name_messages
+    named_fits new r has e =
         all_append _ r.name_messages _ e (
           note_mapped _ (rule_named (name_to_take r.names new) (r.names (own_name new)) new).message
               (λ m. note_fits (id_for r.ids new.tag (name_to_take r.names new) ∷ []) m.level (duplicate_words m.strength) new (search arith) has),
           tt,
         )
+
+    kind_fits : (t : Tag) (new : Item) (r : Register) → (Has → AttrsHave T new.attrs) → Notes r.name_messages → Notes (with_kind t new r).name_messages
+    kind_fits Problematic new r has e = e
+    kind_fits SystemMessage new r has e = e
+    kind_fits SubstitutionDefinition new r has e =
+        all_append _ r.name_messages _ e (note_mapped _ (r.definitions (own_name new)) (λ n. note_fits [] Error (codes "Duplicate substitution definition name: \"") new refl has), tt)
+    kind_fits Target new r has e =
+        cond_both (is_alias new) (with_alias r) (with_named new r) (λ made. Notes made.name_messages) (λ _. all_append _ r.name_messages _ e (tt, tt)) (λ _. named_fits new r has e)
+    kind_fits _ new r has e = named_fits new r has e
 
     all_fit : (xs : List Item) (r : Register) → (Has → AllByRecursion (λ (x : Item). AttrsHave T x.attrs) xs) → Notes r.name_messages → Notes (all_registered xs r).name_messages
     all_fit [] r has e = e

@@ -3,7 +3,7 @@ use Rattle.std.specs.Prelude.{ℕ, Bool, true, false, ◌&&◌, is_some, List, [
 use Rattle.std.specs.BTreeMap.{get_by_text}
 use Rattle.std.specs.Str.{bytes_eq}
 use Rattle.std.specs.declared.alloc.AllocError.{AllocError}
-use Rattle.rst_tree.specs.declared.key.Key.TheVariants.{OwnName, TextMessages}
+use Rattle.rst_tree.specs.declared.key.Key.TheVariants.{Inline, OwnName, Refname, TextMessages}
 use Rattle.rst_tree.specs.declared.tag.Tag.{Tag}
 use Rattle.rst_tree.specs.declared.tag.Tag.TheVariants.{Topic}
 use Rattle.rst_tree.specs.Attributes.{as_number, as_text, value_of}
@@ -23,6 +23,10 @@ is_topic _ = false
 -- an element is a table of contents: of all topics these alone have the number of the messages on their titles, which follow them
 abbrev pub is_table_of_contents : Item → Bool
 is_table_of_contents x = is_topic x.tag && is_some (as_number (value_of TextMessages x.attrs))
+
+-- an embedded alias left a target: it is in a text, and refers to a name
+abbrev pub is_alias : Item → Bool
+is_alias target = is_some (value_of Refname target.attrs) && is_some (value_of Inline target.attrs)
 
 -- the name that a new element is to get, by what is known of names: of a table of contents none if something is known of the name already
 abbrev pub name_to_take : (List ℕ → Option NameEntry) → Item → List ℕ

@@ -6,7 +6,7 @@ use Rattle.std.specs.Str.{bytes_eq}
 use Rattle.rst_tree.specs.declared.key.Key.TheVariants.{Message}
 use Rattle.rst_tree.specs.declared.node.Node.{Node}
 use Rattle.rst_tree.specs.declared.tag.Tag.{Tag}
-use Rattle.rst_tree.specs.declared.tag.Tag.TheVariants.{Problematic, SystemMessage, SubstitutionDefinition}
+use Rattle.rst_tree.specs.declared.tag.Tag.TheVariants.{Problematic, SystemMessage, SubstitutionDefinition, Target}
 use Rattle.rst_tree.specs.Attributes.{as_number, value_of}
 use Rattle.rst_tree.specs.Paths.{map_at}
 use Rattle.rst_tree.specs.TagNames.{hyphenated, tag_name}
@@ -21,7 +21,7 @@ use Rattle.rst_transform_names.specs.declared.registry.Standing.{Standing}
 use Rattle.rst_transform_names.specs.Ids.{id_for, least_free, id_with_number, AreTaken}
 use Rattle.rst_transform_names.specs.DuplicateMessages.{duplicate_definition, duplicate_name}
 use Rattle.rst_transform_names.specs.NameMessages.{message_on, with_name_messages}
-use Rattle.rst_transform_names.specs.Names.{name_to_take, own_name, with_entry, AreRegistered}
+use Rattle.rst_transform_names.specs.Names.{is_alias, name_to_take, own_name, with_entry, AreRegistered}
 use Rattle.rst_transform_names.specs.Registry.{definer, known_by, losing, rule_named, standing}
 use Rattle.rst_transform_names.specs.Written.{given, left_after, problematic_id, with_given}
 
@@ -96,11 +96,19 @@ with_named new r =
       name_messages = r.name_messages ++ option_map (λ message. duplicate_name message new id) rule.message ∷ [];
     }
 
+-- a target that an alias leaves has its name, whoever else has it, and no id
+abbrev pub with_alias : Register → Register
+with_alias r = record r { standings = r.standings ++ standing (length r.standings) None false false ∷ []; name_messages = r.name_messages ++ None ∷ [] }
+
+abbrev pub with_target : Item → Register → Register
+with_target new r = if is_alias new then with_alias r else with_named new r
+
 -- an element, by its kind
 abbrev pub with_kind : Tag → Item → Register → Register
 with_kind Problematic = with_message_id
 with_kind SystemMessage = with_message_id
 with_kind SubstitutionDefinition = with_definition
+with_kind Target = with_target
 with_kind _ = with_named
 
 abbrev pub with_element : Item → Register → Register

@@ -1,7 +1,7 @@
 //! What registration has to know of the elements.
 ghost use Rattle.std.specs.Prelude.{◌≡◌};
 ghost use Rattle.rst_tree_index.specs.Registered.{item_of};
-ghost use Rattle.rst_transform_names.specs.Names.{is_table_of_contents, own_name};
+ghost use Rattle.rst_transform_names.specs.Names.{is_alias, is_table_of_contents, own_name};
 
 use rst_tree::{Key, Tag};
 use rst_tree_index::Element;
@@ -19,4 +19,12 @@ pub fn is_table_of_contents(element: Element<'_>) -> bool
     ensures { result ≡ is_table_of_contents (item_of element.entry) }
 {
     element.tag == Tag::Topic && element.attrs.number(Key::TextMessages).is_some()
+}
+
+/// Whether an embedded alias left a target: it is in a text, and refers to a name.
+#[inline(always)]
+pub fn is_alias(target: Element<'_>) -> bool
+    ensures { result ≡ is_alias (item_of target.entry) }
+{
+    target.attrs.has(Key::Refname) && target.attrs.has(Key::Inline)
 }

@@ -5,14 +5,14 @@ ghost use Rattle.rst_tree_index.specs.Registered.{item_of};
 ghost use Rattle.rst_transform_names.specs.DuplicateMessages.{duplicate_definition, duplicate_name};
 ghost use Rattle.rst_transform_names.specs.Names as spec;
 ghost use Rattle.rst_transform_names.specs.Names.{entry_named, Knows};
-ghost use Rattle.rst_transform_names.specs.Registering.{all_registered, nothing_known, with_definition, with_element, with_named, Holds, Makes};
+ghost use Rattle.rst_transform_names.specs.Registering.{all_registered, nothing_known, with_alias, with_definition, with_element, with_named, with_target, Holds, Makes};
 ghost use Rattle.rst_transform_names.specs.Registry.{strength_of, target_uri, known_by, losing, rule_named};
 
 use super::duplicate_messages::{duplicate_definition, duplicate_name};
 use super::ids::Ids;
 use super::message_ids::KnownMessages;
 use super::names::{Holder, NameEntry, Names, Strength};
-use super::registrants::{is_table_of_contents, own_name};
+use super::registrants::{is_alias, is_table_of_contents, own_name};
 use super::rulings::{NO_RULING, Now, Ruling, ruling_for};
 use rst_tree::{Key, Node, Result, Tag, Text};
 use rst_tree_index::Element;
@@ -24,7 +24,7 @@ use std::collections::BTreeMap;
 pub struct Standing {
     /// Its number: how many of these elements come before it.
     pub serial: u64,
-    /// Its id; a substitution definition has none.
+    /// Its id; a substitution definition and a target that an alias leaves have none.
     pub id: Option<Text>,
     /// Whether it has no name, though it was written with one.
     pub unnamed: bool,
@@ -77,6 +77,7 @@ impl Registry {
                 self.known_messages.add(alloc, new, number)
             }
             Tag::SubstitutionDefinition => self.define(alloc, new),
+            Tag::Target => self.target(alloc, new),
             _ => self.name(alloc, new),
         }
     }
@@ -102,6 +103,32 @@ impl Registry {
             id: Some(id),
             unnamed,
             lost: ruling.new_loses,
+        })?;
+        Ok(())
+    }
+
+    /// Registers a target.
+    fn target(&mut self, alloc: Global, new: Element<'_>) -> Result<()>
+        ensures { IfOk result (λ _. Makes (with_target (item_of new.entry)) self.old self.new) }
+    {
+        if is_alias(new) {
+            self.alias()
+        } else {
+            self.name(alloc, new)
+        }
+    }
+
+    /// Registers a target that an alias leaves: it has its name, whoever else has it, and no id.
+    fn alias(&mut self) -> Result<()>
+        ensures { IfOk result (λ _. Makes with_alias self.old self.new) }
+    {
+        let serial = self.standings.len() as u64;
+        self.name_messages.push(None)?;
+        self.standings.push(Standing {
+            serial,
+            id: None,
+            unnamed: false,
+            lost: false,
         })?;
         Ok(())
     }

@@ -4,7 +4,7 @@
 
 ghost use Rattle.std.specs.Prelude.{◌≡◌, true, false, Some, None, codes, [], ◌∷◌};
 ghost use Rattle.rst_text.specs.Names.{identifier};
-ghost use Rattle.rst_tree.specs.declared.key.Key.TheVariants.{Inline, Message, OwnName, Refuri, Serial, TextMessages};
+ghost use Rattle.rst_tree.specs.declared.key.Key.TheVariants.{Inline, Message, OwnName, Refname, Refuri, Serial, TextMessages};
 ghost use Rattle.rst_tree.specs.declared.note.Level.TheVariants.{Info, Warning};
 ghost use Rattle.rst_tree.specs.declared.tag.Tag.TheVariants.{Attribution, BlockQuote, Caption, Classifier, Definition, DefinitionListItem, Field, FieldBody, FieldName, Figure, Footnote, Image, Line, LineBlock, Paragraph, Problematic, Reference, Section, SubstitutionDefinition, SystemMessage, Target, Term, Title, Topic};
 ghost use Rattle.rst_tree.specs.Walk.{item, walked_node};
@@ -220,6 +220,9 @@ pub fn registered()
     ensures two_targets { PrintsRegistered 0 (element Target (says OwnName "a" ∷ []) [] ∷ element Target (says OwnName "a" ∷ []) [] ∷ [])
         ("<document>" ∷ "    <target dupnames=\"a\" ids=\"a\">" ∷ "    <system_message backrefs=\"a-1\" level=\"2\" line=\"1\" type=\"WARNING\">"
         ∷ "        <paragraph>" ∷ "            Duplicate explicit target name: \"a\"." ∷ "    <target dupnames=\"a\" ids=\"a-1\">" ∷ []) }
+    ensures alias { PrintsRegistered 0 (element Target (counts Inline 1 ∷ says OwnName "a" ∷ says Refname "b" ∷ []) [] ∷ element Target (says OwnName "a" ∷ []) []
+        ∷ element Target (counts Inline 1 ∷ says OwnName "a" ∷ says Refname "c" ∷ []) [] ∷ element Target (says OwnName "d" ∷ says Refname "b" ∷ []) [] ∷ [])
+        ("<document>" ∷ "    <target names=\"a\">" ∷ "    <target ids=\"a\" names=\"a\">" ∷ "    <target names=\"a\">" ∷ "    <target ids=\"d\" names=\"d\">" ∷ []) }
     ensures two_targets_with_one_uri { PrintsRegistered 0 (element Target (says OwnName "a" ∷ says Refuri "u" ∷ []) []
         ∷ element Target (says OwnName "a" ∷ says Refuri "u" ∷ []) [] ∷ [])
         ("<document>" ∷ "    <target ids=\"a\" names=\"a\" refuri=\"u\">"

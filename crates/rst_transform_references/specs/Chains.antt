@@ -39,9 +39,6 @@ step_to places links name (Some entry) =
 abbrev pub own_step : (List ℕ → Option NameEntry) → List (Option ℕ) → Links → Node → Option Step
 own_step known places links node = option_map (λ name. step_to places links name (known name)) (indirect_name node)
 
-abbrev pub steps_of : (List ℕ → Option NameEntry) → List (Option ℕ) → Links → List (Option Step)
-steps_of known places links = map (λ place. own_step known places links (node_at place links)) (places_of links)
-
 -- ---- what a chain comes to, step by step
 
 -- what a chain comes to that begins with a step, within a number of further ones: its end, or a circle if these are too few; nothing without a step

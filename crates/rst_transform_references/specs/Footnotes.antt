@@ -9,7 +9,7 @@ use Rattle.rst_transform_names.specs.declared.names.Strength.TheVariants.{Explic
 use Rattle.rst_tree.specs.declared.key.Key.TheVariants.{Ids, Names, Serial}
 use Rattle.rst_tree.specs.declared.node.Node.{Node}
 use Rattle.rst_tree.specs.declared.node.Node.TheVariants.{Element, Text}
-use Rattle.rst_tree.specs.declared.tag.Tag.TheVariants.{Footnote, FootnoteReference}
+use Rattle.rst_tree.specs.declared.tag.Tag.TheVariants.{Citation, Footnote, FootnoteReference}
 use Rattle.rst_tree.specs.Nodes.{nodes_of}
 use Rattle.rst_tree.specs.Tree.{text_in}
 use Rattle.rst_transform_references.specs.declared.links.Change.{Change}
@@ -24,6 +24,11 @@ use Rattle.rst_transform_references.specs.Orders.{is_order, pairs_by, references
 use Rattle.rst_transform_references.specs.Table.{Links}
 use Rattle.rst_transform_work.specs.Known.{Known}
 use Rattle.rst_transform_work.specs.Reading.{line_of, list_of_attribute, number_of_attribute}
+
+abbrev pub is_noted : Node → Bool
+is_noted (Element Footnote a c l) = true
+is_noted (Element Citation a c l) = true
+is_noted _ = false
 
 -- ---- the labels
 

@@ -14,9 +14,11 @@ use Rattle.rst_transform_work.specs.Lists.{at_place}
 use Rattle.rst_transform_work.specs.Reading.{line_of, text_of_attribute}
 use Rattle.rst_transform_references.specs.declared.chains.Answer.{Answer}
 use Rattle.rst_transform_references.specs.declared.chains.Answer.TheVariants.{Leads, Missing, Circular}
+use Rattle.rst_transform_references.specs.declared.chains.Step.{Step}
 use Rattle.rst_transform_references.specs.declared.links.Change.TheVariants.{Stays}
 use Rattle.rst_transform_references.specs.declared.orders.Order.TheVariants.{Anonymous}
-use Rattle.rst_transform_references.specs.Chains.{answers_of, indirect_name, steps_of}
+use Rattle.rst_transform_references.specs.Aliases.{names_before}
+use Rattle.rst_transform_references.specs.Chains.{answers_of, indirect_name, own_step}
 use Rattle.rst_transform_references.specs.Failing.{fail_for}
 use Rattle.rst_transform_references.specs.Holders.{named_place, places_by_number}
 use Rattle.rst_transform_references.specs.Links.{all, each, node_at, places_of, puts}
@@ -60,6 +62,10 @@ lists_now = map (λ list. list.items)
 
 -- ---- what indirect targets come to
 
+-- the first step from each, which finds the aliases before it by their names, too
+abbrev pub steps_of : (List ℕ → Option NameEntry) → List (Option ℕ) → Links → List (Option Step)
+steps_of known places links = map (λ place. own_step (names_before place places links known) places links (node_at place links)) (places_of links)
+
 -- the texts of the messages on a target whose chain breaks at a name that no element has, and on one whose chain is a circle
 abbrev pub missing_text : List ℕ → List ℕ → List ℕ
 missing_text name missing = codes "Indirect hyperlink target \"" ++ (name ++ (codes "\" refers to target \"" ++ (missing ++ codes "\", which does not exist.")))
@@ -87,12 +93,17 @@ concludes target references (Some (Missing missing)) links known =
 concludes target references (Some Circular) links known =
     let node : Node = node_at target links in fail_for references (line_of node) (circular_text (own_name node)) links known
 
--- what each indirect target comes to happens to it and to the references to it, one target after another, if there is one
+-- what each indirect target comes to happens to it and to the references to it, one target after another
+abbrev pub all_conclude : List (Option ℕ) → List (Option Answer) → Links → Known → Links × Known
+all_conclude places answers links known =
+    let targets : List (Option ℕ) = targets_of known.names places links in
+    each (λ place. concludes place (references_to targets place) (at_place answers place)) (range_with_len 0 (length targets)) links known
+
+-- the same if there is one; references find aliases by their names, too
 unfoldable pub indirect : Links → Known → Links × Known
 indirect links known =
     let places : List (Option ℕ) = places_by_number known.serials links in
     let answers : List (Option Answer) = answers_of (steps_of known.names places links) in
-    let targets : List (Option ℕ) = targets_of known.names places links in
     if list_any (λ place. is_some (indirect_name (node_at place links))) (places_of links)
-    then each (λ place. concludes place (references_to targets place) (at_place answers place)) (range_with_len 0 (length targets)) links known
+    then all_conclude places answers links (record known { names = names_before (length links.linked) places links known.names })
     else (links, known)

@@ -1,3 +1,4 @@
+pub mod Aliases
 pub mod Anonymous
 pub mod Chains
 pub mod Changes

@@ -5,13 +5,13 @@ use Rattle.rst_transform_names.specs.declared.names.NameEntry.{NameEntry}
 use Rattle.rst_tree.specs.declared.key.Key.TheVariants.{Auto, Ids, Refname}
 use Rattle.rst_tree.specs.declared.node.Node.{Node}
 use Rattle.rst_tree.specs.declared.node.Node.TheVariants.{Element}
-use Rattle.rst_tree.specs.declared.tag.Tag.TheVariants.{Citation, CitationReference, Footnote, FootnoteReference}
+use Rattle.rst_tree.specs.declared.tag.Tag.TheVariants.{CitationReference, FootnoteReference}
 use Rattle.rst_tree.specs.Paths.{node_value}
 use Rattle.rst_transform_references.specs.declared.links.Change.{Change}
 use Rattle.rst_transform_references.specs.declared.links.Change.TheVariants.{Lists, Stays}
 use Rattle.rst_transform_references.specs.declared.orders.Order.TheVariants.{Numbers, Symbols}
 use Rattle.rst_transform_references.specs.Failing.{fail_for}
-use Rattle.rst_transform_references.specs.Footnotes.{label_at}
+use Rattle.rst_transform_references.specs.Footnotes.{is_noted, label_at}
 use Rattle.rst_transform_references.specs.Holders.{holder_place, is_nobody, named_place, places_by_number}
 use Rattle.rst_transform_references.specs.Indirect.{is_reference_node, with_pairs}
 use Rattle.rst_transform_references.specs.Leads.{name_lead}
@@ -23,11 +23,6 @@ use Rattle.rst_transform_work.specs.Lists.{at_place}
 use Rattle.rst_transform_work.specs.Reading.{line_of, list_of_attribute, text_of_attribute}
 
 -- ---- references to footnotes and citations
-
-abbrev pub is_noted : Node → Bool
-is_noted (Element Footnote a c l) = true
-is_noted (Element Citation a c l) = true
-is_noted _ = false
 
 abbrev pub refers_to_note : Node → Bool
 refers_to_note (Element FootnoteReference a c l) = true

@@ -1,11 +1,11 @@
 //! The chains of indirect targets: where each ends.
-ghost use Rattle.std.specs.Prelude.{IfOk, ◌≡◌};
-ghost use Rattle.rst_transform_references.specs.Chains.{answers_of, joined, next_on, stopped};
+ghost use Rattle.std.specs.Prelude.{IfOk, ◌≡◌, is_some, MatchOption, None, Some};
+ghost use Rattle.rst_transform_references.specs.Chains.{answers_of, indirect_name, joined, next_on, stopped};
 ghost use Rattle.rst_transform_work.specs.Lists.{at_place};
 
-use crate::leads::Lead;
-use rst_transform_work::{at_place, item_at, put_at};
-use rst_tree::{Result, Text};
+use crate::leads::{Lead, is_target};
+use rst_transform_work::{at_place, item_at, put_at, text_of_attribute};
+use rst_tree::{Key, Node, Result, Text};
 use std::alloc::Global;
 
 /// What an indirect target comes to, through further ones.
@@ -26,6 +26,23 @@ pub enum Step {
     To(usize),
     /// It comes to this.
     Ends(Answer),
+}
+
+/// Whether a node is an indirect target.
+pub fn is_indirect(node: &Node) -> bool
+    ensures { result ≡ is_some (indirect_name node.now) }
+{
+    indirect_name(node).is_some()
+}
+
+/// The name that an indirect target refers to.
+pub fn indirect_name<'a>(node: &'a Node) -> Option<&'a str>
+    ensures { MatchOption result (indirect_name node.now ≡ None) (λ name. indirect_name node.now ≡ Some name.now) }
+{
+    if !is_target(node) {
+        return None;
+    }
+    text_of_attribute(node, Key::Refname)
 }
 
 impl Answer {

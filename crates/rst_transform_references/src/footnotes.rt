@@ -2,7 +2,7 @@
 ghost use Rattle.std.specs.Prelude.{IfOk, ◌≡◌, ℕ, List, drop};
 ghost use Rattle.std.specs.List.{zip};
 ghost use Rattle.rst_transform_names.specs.Names.{entry_named};
-ghost use Rattle.rst_transform_references.specs.Footnotes.{footnotes, is_of_footnotes, label_at, labelled, leads_to_footnote, left_over, order_name, refer_by, with_number};
+ghost use Rattle.rst_transform_references.specs.Footnotes.{footnotes, is_noted, is_of_footnotes, label_at, labelled, leads_to_footnote, left_over, order_name, refer_by, with_number};
 ghost use Rattle.rst_transform_references.specs.Links.{all};
 ghost use Rattle.rst_transform_work.specs.Known.{Makes};
 
@@ -77,6 +77,17 @@ fn is_of_footnotes(node: &Node) -> bool
 {
     match node {
         Node::Element { tag, .. } => matches!(tag, Tag::Footnote | Tag::FootnoteReference),
+        Node::Text(_) => false,
+    }
+}
+
+/// Whether a node is a footnote or a citation.
+#[inline(always)]
+pub fn is_noted(node: &Node) -> bool
+    ensures { result ≡ is_noted node.now }
+{
+    match node {
+        Node::Element { tag, .. } => matches!(tag, Tag::Footnote | Tag::Citation),
         Node::Text(_) => false,
     }
 }

@@ -1,17 +1,19 @@
 //! Indirect targets.
-ghost use Rattle.std.specs.Prelude.{IfOk, ◌≡◌, [], ◌∷◌, filter, is_some, length, map, replicate, option_map, MatchOption, None, Some};
+ghost use Rattle.std.specs.Prelude.{IfOk, ◌≡◌, [], ◌∷◌, filter, length, map, replicate, option_map};
 ghost use Rattle.std.specs.List.{range_with_len};
-ghost use Rattle.rst_transform_names.specs.Names.{entry_named};
-ghost use Rattle.rst_transform_references.specs.Chains.{indirect_name, own_step, steps_of};
-ghost use Rattle.rst_transform_references.specs.Indirect.{all_lead, concludes, indirect, is_anonymous_at, is_reference_node, lists_now, missing_text, named_target, with_reference, references_to, targets_of};
+ghost use Rattle.rst_transform_names.specs.Names.{entry_named, AreRegistered};
+ghost use Rattle.rst_transform_references.specs.Aliases.{names_before};
+ghost use Rattle.rst_transform_references.specs.Chains.{own_step};
+ghost use Rattle.rst_transform_references.specs.Indirect.{all_conclude, all_lead, concludes, indirect, is_anonymous_at, is_reference_node, lists_now, missing_text, named_target, with_reference, references_to, steps_of, targets_of};
 ghost use Rattle.rst_transform_references.specs.Links.{each};
 ghost use Rattle.rst_transform_work.specs.Known.{Makes};
 ghost use Rattle.rst_transform_work.specs.Lists.{at_place};
 
-use crate::chains::{Answer, Step, answers};
+use crate::aliases::hold_alias;
+use crate::chains::{Answer, Step, answers, indirect_name, is_indirect};
 use crate::failing::fail_for;
 use crate::holders::{holder_place, is_lost, named_place, places_by_number};
-use crate::leads::{Lead, is_target, name_lead};
+use crate::leads::{Lead, name_lead};
 use crate::links::{Change, Links};
 use crate::orders::{Order, add_pairs};
 use rst_transform_names::Names;
@@ -44,7 +46,7 @@ use std::alloc::Global;
 /// <target ids="b" names="b" refuri="https://x.org/">
 /// ```
 ///
-/// References by name are left to the last of these transforms. A target whose chain runs into a circle, or breaks at a name
+/// References by name are left to the last of these transforms. From now on they find the targets of aliases by their names, too. A target whose chain runs into a circle, or breaks at a name
 /// that no element has, gives an ERROR, and the references through it become problematics of that message: message by message,
 /// under each in the order of the document.
 pub fn resolve_indirect(context: &mut Context, links: &mut Links<'_>) -> Result<()>
@@ -55,31 +57,26 @@ pub fn resolve_indirect(context: &mut Context, links: &mut Links<'_>) -> Result<
     }
     let alloc = context.alloc;
     let places = places_by_number(alloc, links, context.serials)?;
-    let steps = steps_of(alloc, &context.names, &places, links)?;
+    let steps = steps_of(alloc, &mut context.names, &places, links)?;
     let answers = answers(alloc, &steps)?;
-    let targets = targets_of(alloc, &context.names, &places, links)?;
-    let references = references_to_each(alloc, &targets)?;
+    conclude_all(context, links, &places, &answers)
+}
+
+/// Lets what each indirect target comes to happen to it and to the references to it.
+fn conclude_all(
+    context: &mut Context,
+    links: &mut Links<'_>,
+    places: &[Option<usize>],
+    answers: &[Option<Answer>],
+) -> Result<()>
+    ensures { IfOk result (λ _. Makes (all_conclude places.now answers.now links.old) context.old context.new links.new) }
+{
+    let targets = targets_of(context.alloc, &context.names, places, links)?;
+    let references = references_to_each(context.alloc, &targets)?;
     for (place, list) in references.iter().enumerate() {
-        conclude(context, links, place, list, item_at(&answers, place))?;
+        conclude(context, links, place, list, item_at(answers, place))?;
     }
     Ok(())
-}
-
-/// Whether a node is an indirect target.
-fn is_indirect(node: &Node) -> bool
-    ensures { result ≡ is_some (indirect_name node.now) }
-{
-    indirect_name(node).is_some()
-}
-
-/// The name that an indirect target refers to.
-fn indirect_name<'a>(node: &'a Node) -> Option<&'a str>
-    ensures { MatchOption result (indirect_name node.now ≡ None) (λ name. indirect_name node.now ≡ Some name.now) }
-{
-    if !is_target(node) {
-        return None;
-    }
-    text_of_attribute(node, Key::Refname)
 }
 
 /// The first step from an element, if it is an indirect target.
@@ -113,19 +110,22 @@ fn own_step(
     }
 }
 
-/// The first step from each indirect target, by its place; there is nothing for the other elements.
+/// The first step from each indirect target, by its place; there is nothing for the other elements. It finds the aliases before it by their names,
+/// too. In the end all aliases have theirs.
 fn steps_of(
     alloc: Global,
-    names: &Names,
+    names: &mut Names,
     places: &[Option<usize>],
     links: &Links<'_>,
 ) -> Result<Vec<Option<Step>>>
-    ensures { IfOk result (λ steps. steps.items ≡ steps_of (entry_named names.now) places.now links.now) }
+    ensures steps { IfOk result (λ steps. steps.items ≡ steps_of (entry_named names.old) places.now links.now) }
+    ensures names { IfOk result (λ _. AreRegistered names.new (names_before (length links.now.linked) places.now links.now (entry_named names.old))) }
 {
     let mut steps = Vec::with_capacity(alloc, links.len())?;
     for place in 0..links.len() {
         let step = own_step(alloc, names, places, links, links.node(place))?;
         steps.push(step)?;
+        hold_alias(alloc, names, places, links, place)?;
     }
     Ok(steps)
 }

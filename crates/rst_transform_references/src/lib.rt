@@ -2,6 +2,7 @@
 //! Specification, 'Hyperlink Targets', 'Footnotes', 'Citations', 'Reference Names').
 #![tactic(auto)]
 
+mod aliases;
 mod anonymous;
 mod chains;
 mod changes;

@@ -5,7 +5,7 @@ ghost use Rattle.rst_transform_references.specs.Resolving.{fails_alone, label_fo
 ghost use Rattle.rst_transform_work.specs.Known.{Makes};
 
 use crate::failing::fail_for;
-use crate::footnotes::label_at;
+use crate::footnotes::{is_noted, label_at};
 use crate::holders::{holder_place, is_lost, named_place, places_by_number};
 use crate::indirect::is_reference;
 use crate::leads::name_lead;
@@ -78,9 +78,10 @@ fn note_at(links: &Links<'_>, place: Option<usize>) -> Option<usize>
     ensures { result ≡ note_at place links.now }
 {
     let place = place?;
-    match links.node(place) {
-        Node::Element { tag, .. } if matches!(tag, Tag::Footnote | Tag::Citation) => Some(place),
-        _ => None,
+    if is_noted(links.node(place)) {
+        Some(place)
+    } else {
+        None
     }
 }
 

@@ -306,7 +306,10 @@ class Builder:
         self.document.note_refname(node)
 
     def target(self, parent: Any, found: list[Any], holder: Any) -> None:
-        node, given = self.new(found), found[2]
+        given = found[2]
+        if "inline" in given and "refname" in given:
+            return  # that of an alias, which its reference has made, as it does by the base
+        node = self.new(found)
         node.rawsource = sources.of_explicit(self.lines, found[1], until_blank=True) if "refname" in given else ""
         self.put(node, found[3:], holder, holder)
         if "inline" in given:

@@ -155,6 +155,8 @@ pub fn replacements()
         (pieces_of true true (codes ":ac:`a` :ab:`b` :math:`c` :code:`d` :pep:`8`"))) ≡ true }
     ensures references { may_replace (nodes_from no_parts (codes "a_ http://b") 1 0 (pieces_of false false (codes "a_ http://b"))) ≡ true }
     ensures embedded { may_replace (nodes_from no_parts (codes "`a <u>`__ `a <b_>`_") 1 0 (pieces_of false false (codes "`a <u>`__ `a <b_>`_"))) ≡ true }
+    ensures target_of_an_alias { may_replace (nodes_from all_parts (codes "`a <b_>`_") 1 0 (pieces_of true true (codes "`a <b_>`_"))) ≡ true }
+    ensures target_of_a_uri { may_replace (nodes_from no_parts (codes "`a <u>`_") 1 0 (pieces_of false false (codes "`a <u>`_"))) ≡ false }
     ensures anonymous { may_replace (nodes_from no_parts (codes "a__") 1 0 (pieces_of false false (codes "a__"))) ≡ false }
     ensures round_a_substitution { may_replace (nodes_from no_parts (codes "|a|_") 1 0 (pieces_of false false (codes "|a|_"))) ≡ false }
     ensures target { may_replace (nodes_from no_parts (codes "_`a`") 1 0 (pieces_of false false (codes "_`a`"))) ≡ false }

@@ -2,11 +2,11 @@
 #![tactic(auto, unfolding(crate::proofs::Computing::rst_transform_references))]
 
 ghost use Rattle.std.specs.Prelude.{◌≡◌, Some, None, codes, [], ◌∷◌, map};
-ghost use Rattle.rst_tree.specs.declared.key.Key.TheVariants.{Anonymous, Ids, OwnName, Rawsource, Refid, Refname, Refuri, Serial};
+ghost use Rattle.rst_tree.specs.declared.key.Key.TheVariants.{Anonymous, Ids, Inline, OwnName, Rawsource, Refid, Refname, Refuri, Serial};
 ghost use Rattle.rst_tree.specs.declared.node.Node.TheVariants.{Element};
-ghost use Rattle.rst_tree.specs.declared.tag.Tag.TheVariants.{Footnote, Reference, Target};
+ghost use Rattle.rst_tree.specs.declared.tag.Tag.TheVariants.{Citation, Footnote, Reference, Target};
 ghost use Rattle.rst_tree.specs.Forest.{bare};
-ghost use Rattle.rst_transform_names.specs.declared.names.Holder.TheVariants.{Nobody};
+ghost use Rattle.rst_transform_names.specs.declared.names.Holder.TheVariants.{Element as By, Nobody};
 ghost use Rattle.rst_transform_names.specs.declared.names.Strength.TheVariants.{Explicit};
 ghost use Rattle.rst_transform_names.specs.Trees.{counts, element, lists, says, text};
 ghost use Rattle.rst_transform_work.specs.declared.document.Document.{Document};
@@ -18,7 +18,7 @@ ghost use Rattle.rst_transform_references.specs.Anonymous.{anonymous, first_line
 ghost use Rattle.rst_transform_references.specs.Chains.{indirect_name, step_to};
 ghost use Rattle.rst_transform_references.specs.Indirect.{circular_text, indirect, missing_text, own_name, references_to};
 ghost use Rattle.rst_transform_references.specs.Links.{links_of};
-ghost use Rattle.rst_transform_references.specs.Written.{transformed_by};
+ghost use Rattle.rst_transform_references.specs.Written.{alias, holder_after, transformed_by};
 
 /// Anonymous references take the anonymous targets in order (Markup Specification, 'Anonymous Hyperlinks').
 pub fn anonymous()
@@ -73,6 +73,18 @@ pub fn indirect()
         ∷ "        b_" ∷ "    <problematic ids=\"problematic-1\" refid=\"system-message-1\">" ∷ "        a_" ∷ []) }
 {}
 
+/// Which element has a name that an alias has, too (Markup Specification, 'Embedded URIs and Aliases').
+pub fn aliases()
+    ensures first_of_two { holder_after (Some 0 ∷ Some 1 ∷ []) (alias 0 ∷ alias 1 ∷ []) [] ≡ Some (By 0) }
+    ensures before_a_target { holder_after (Some 1 ∷ Some 0 ∷ []) (alias 1 ∷ element Target (says Refuri "u" ∷ []) [] ∷ []) ("a" ∷ []) ≡ Some (By 1) }
+    ensures after_a_target { holder_after (Some 0 ∷ Some 1 ∷ []) (element Target (says Refuri "u" ∷ []) [] ∷ alias 1 ∷ []) ("a" ∷ []) ≡ Some (By 1) }
+    ensures before_an_indirect_target { holder_after (Some 1 ∷ Some 0 ∷ []) (alias 1 ∷ element Target (says Refname "c" ∷ []) [] ∷ []) ("a" ∷ []) ≡ Some (By 1) }
+    ensures after_an_indirect_target { holder_after (Some 0 ∷ Some 1 ∷ []) (element Target (says Refname "c" ∷ []) [] ∷ alias 1 ∷ []) ("a" ∷ []) ≡ Some (By 0) }
+    ensures after_a_footnote { holder_after (Some 0 ∷ Some 1 ∷ []) (element Footnote [] [] ∷ alias 1 ∷ []) ("a" ∷ []) ≡ Some (By 0) }
+    ensures before_a_citation { holder_after (Some 1 ∷ Some 0 ∷ []) (alias 1 ∷ element Citation [] [] ∷ []) ("a" ∷ []) ≡ Some (By 0) }
+    ensures in_no_text { holder_after (Some 0 ∷ []) (element Target (says OwnName "a" ∷ says Refname "b" ∷ counts Serial 0 ∷ []) [] ∷ []) [] ≡ None }
+{}
+
 /// Indirect targets lead where their chains of names end (Markup Specification, 'Hyperlink Targets').
 pub fn chains()
     ensures to_a_uri { Shows (transformed_by indirect ("a" ∷ "b" ∷ []) (plain_document (element Reference (counts Anonymous 1 ∷ []) (text "x" ∷ [])
@@ -101,6 +113,16 @@ pub fn chains()
         ∷ "        a_" ∷ [])
         × (map (λ r. r.text) done.1.reports ≡ codes "Indirect hyperlink target \"c\" refers to target \"b\", which does not exist."
         ∷ codes "Indirect hyperlink target \"a\" refers to target \"b\", which does not exist." ∷ []) }
+    ensures alias_that_names_itself { Shows (transformed_by indirect ("a" ∷ "" ∷ []) (plain_document (element Target (counts Inline 1 ∷ says OwnName "a"
+        ∷ says Refname "a" ∷ counts Serial 1 ∷ []) [] ∷ element Target (says Refuri "u" ∷ counts Serial 0 ∷ []) [] ∷ []))).0
+        ("<document>" ∷ "    <target refuri=\"u\">" ∷ "    <target refuri=\"u\">" ∷ []) }
+    ensures step_to_an_alias_before { Shows (transformed_by indirect ("c" ∷ "" ∷ "b" ∷ []) (plain_document (element Target (counts Inline 1 ∷ says OwnName "a"
+        ∷ says Refname "c" ∷ counts Serial 1 ∷ []) [] ∷ element Target (says OwnName "b" ∷ says Refname "a" ∷ counts Serial 2 ∷ []) []
+        ∷ element Target (says Refuri "u" ∷ counts Serial 0 ∷ []) [] ∷ []))).0
+        ("<document>" ∷ "    <target refuri=\"u\">" ∷ "    <target refuri=\"u\">" ∷ "    <target refuri=\"u\">" ∷ []) }
+    ensures no_step_to_an_alias_after { map (λ r. r.text) (transformed_by indirect ("c" ∷ "" ∷ "b" ∷ []) (plain_document (element Target (says OwnName "b" ∷ says Refname "a" ∷ counts Serial 2
+        ∷ []) [] ∷ element Target (counts Inline 1 ∷ says OwnName "a" ∷ says Refname "c" ∷ counts Serial 1 ∷ []) [] ∷ []))).1.reports
+        ≡ codes "Indirect hyperlink target \"b\" refers to target \"a\", which does not exist." ∷ [] }
     ensures left_to_a_later_transform { Shows (transformed_by indirect ("a" ∷ "b" ∷ []) (plain_document (element Reference (says Refname "a" ∷ []) []
         ∷ element Target (counts Serial 0 ∷ says Refname "b" ∷ []) [] ∷ element Target (counts Serial 1 ∷ says Refuri "u" ∷ []) [] ∷ []))).0
         ("<document>" ∷ "    <reference>" ∷ "    <target refuri=\"u\">" ∷ "    <target refuri=\"u\">" ∷ []) }

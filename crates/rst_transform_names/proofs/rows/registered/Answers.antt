@@ -8,6 +8,7 @@ returns c = record {
   two_sections = refl;
   section_then_target = refl;
   two_targets = refl;
+  alias = refl;
   two_targets_with_one_uri = refl;
   target_in_a_text = refl;
   two_definitions = refl;

@@ -11,5 +11,8 @@ returns c = record {
   circle = (refl, refl);
   into_a_circle = refl;
   missing_name = (refl, refl);
+  alias_that_names_itself = refl;
+  step_to_an_alias_before = refl;
+  no_step_to_an_alias_after = refl;
   left_to_a_later_transform = refl;
 }
