@@ -333,17 +333,19 @@ fn content_waits(
 ) -> Result<Waits, AllocError>
     ensures { IfOk result (IsForContent found.now start element) }
 {
-    let Some(directive) = table_directive(found.kind.content) else {
-        return Ok(Waits::Element(element));
-    };
-    let table = OpenTable {
-        directive,
-        table: element,
-        asked: table_options(alloc, found.options.as_slice())?,
-        start,
-        end: found.end,
-    };
-    Ok(Waits::Table(Box::new(alloc, table)?))
+    match table_directive(found.kind.content) {
+        Some(directive) => {
+            let table = OpenTable {
+                directive,
+                table: element,
+                asked: table_options(alloc, found.options.as_slice())?,
+                start,
+                end: found.end,
+            };
+            Ok(Waits::Table(Box::new(alloc, table)?))
+        }
+        None => Ok(Waits::Element(element)),
+    }
 }
 
 /// A figure with its image.

@@ -1,5 +1,6 @@
 //! Tables that directives make (Directives, 'Table', 'List Table').
 ghost use Rattle.std.specs.Prelude.{◌≡◌, ◌+◌, ◌-◌, ◌≤◌, drop, IfOk};
+ghost use Rattle.std.specs.Result.{result_map_both};
 ghost use Rattle.rst_text.specs.Block.{first_number};
 ghost use Rattle.rst_text.specs.Looked.{capped};
 ghost use Rattle.rst_text.specs.ViewBlock.{block_of};
@@ -8,11 +9,13 @@ ghost use Rattle.rst_block_state.specs.Directives.{table_directive};
 ghost use Rattle.rst_block_state.specs.TableDirectives as spec;
 ghost use Rattle.rst_block_state.specs.Texts.{span_source};
 
-use rst_block_nodes::{TableDirective, list_table, message, table_fault_text, titled_table};
+use rst_block_nodes::{
+    TableDirective, TableFault, TableOptions, list_table, message, table_fault_text, titled_table,
+};
 use rst_block_state::{OpenTable, number_at, source};
 use rst_markup_directives::ContentKind;
 use rst_text::{Looks, View};
-use rst_tree::Level;
+use rst_tree::{Level, Node};
 use rst_tree_index::{Marked, MarkedNodes};
 use std::alloc::{AllocError, Global};
 
@@ -24,6 +27,23 @@ pub(crate) fn table_directive(content: ContentKind) -> Option<TableDirective>
         ContentKind::OneTable => Some(TableDirective::Table),
         ContentKind::Rows => Some(TableDirective::ListTable),
         _ => None,
+    }
+}
+
+/// The table that a directive in a line makes of the nodes of its content, and the messages on its title; or what is wrong with the content.
+fn table_by(
+    alloc: Global,
+    directive: TableDirective,
+    line: usize,
+    start: Node,
+    asked: &TableOptions,
+    nodes: MarkedNodes,
+) -> Result<Result<Vec<Node>, TableFault>, AllocError>
+    ensures { IfOk result (λ made. result_map_both (λ nodes. nodes.items) (λ fault. fault) made ≡ spec.table_by directive line start (asked_in asked.now) nodes) }
+{
+    match directive {
+        TableDirective::Table => titled_table(alloc, start, asked, nodes),
+        TableDirective::ListTable => list_table(alloc, start, asked, line, nodes),
     }
 }
 
@@ -51,11 +71,7 @@ pub fn finished_table(
         end,
     } = open;
     let line = number_at(view, start);
-    let made = match directive {
-        TableDirective::Table => titled_table(alloc, table, &asked, nodes)?,
-        TableDirective::ListTable => list_table(alloc, table, &asked, line, nodes)?,
-    };
-    match made {
+    match table_by(alloc, directive, line, table, &asked, nodes)? {
         Ok(nodes) => MarkedNodes::of(alloc, nodes),
         Err(fault) => {
             let text = table_fault_text(alloc, fault)?;

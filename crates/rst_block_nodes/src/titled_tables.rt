@@ -112,7 +112,6 @@ fn with_width(mut node: Node, width: u64) -> Result<Node>
 }
 
 /// The nodes of a group, of which the first are its columns, with these widths.
-#[tactic(auto, using(crate::proofs::TitledTableLemmas::no_nodes))]
 fn with_widths(alloc: Global, widths: &[u64], nodes: Vec<Node>) -> Result<Vec<Node>>
     ensures { IfOk result (λ made. made.items ≡ spec.with_widths widths.now nodes.items) }
 {
