@@ -1,11 +1,11 @@
 -- Where no hyperlink of the wider profile can be, the pieces are those of the base.
-use Rattle.std.proofs.Common.{◌≡◌, ⊎_elim, ℕ, Bool, true, false, cond, List, Option, Some, None, refl, sym, ap, ap₂, ◌∙◌}
+use Rattle.std.proofs.Common.{◌≡◌, ⊎_elim, ℕ, Bool, true, false, ◌&&◌, cond, List, Option, Some, None, true≢false, refl, sym, ap, ◌∙◌}
 use Rattle.std.specs.Option.{option_or}
-use Rattle.std.proofs.lemmas.Bool.{cond_both}
+use Rattle.std.proofs.lemmas.Bool.{or_parts}
 use Rattle.rst_text.specs.Characters.{Text}
-use Rattle.rst_text.proofs.PlacesLemmas.{cases_bool}
 use Rattle.rst_inline_scan.specs.Mail.{holds_at_sign, address}
 use Rattle.rst_inline_scan.specs.Registered.{holds_colon, registered_uri}
+use Rattle.rst_inline_scan.specs.Quiet.{may_hold_links}
 use Rattle.rst_inline_scan.specs.Uri.{uri}
 use Rattle.rst_inline_scan.specs.Pieces.{unlinked_at, markup_at, is_free, markup_from, is_free_link, marked_or_registered, address_from, unaddressed, piece_at, IsPlain, IsPieces, nothing, last, other, plain}
 use Rattle.rst_inline_scan.specs.declared.piece.Piece.{Piece}
@@ -68,5 +68,11 @@ with_registered true t ps none h = colonless-pieces false t ps (none refl) h
 with_registered false t ps none h = h
 
 -- the pieces of the base are those that are asked for, where neither can be
-pub asked-pieces : (mail registered : Bool) (t : Text) (ps : List Piece) → (mail ≡ true → holds_at_sign t ≡ false) → (registered ≡ true → holds_colon t ≡ false) → IsPieces false false t 0 ps → IsPieces mail registered t 0 ps
-asked-pieces mail registered t ps unmailed colonless h = with_addresses mail registered t ps unmailed (with_registered registered t ps colonless h)
+pub asked-pieces : (mail registered : Bool) (t : Text) (ps : List Piece) → may_hold_links mail registered t ≡ false → IsPieces false false t 0 ps → IsPieces mail registered t 0 ps
+asked-pieces mail registered t ps none h =
+    let parts = or_parts (mail && holds_at_sign t) (registered && holds_colon t) none in
+    with_addresses mail registered t ps (absent mail (holds_at_sign t) parts.0) (with_registered registered t ps (absent registered (holds_colon t) parts.1) h)
+  where
+    absent : (asked held : Bool) → (asked && held) ≡ false → asked ≡ true → held ≡ false
+    absent true held h asked = h
+    absent false held h asked = absurd (true≢false (sym asked))

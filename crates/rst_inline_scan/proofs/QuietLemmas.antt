@@ -4,7 +4,7 @@ use Rattle.std.specs.Prelude.{nat_lt}
 use Rattle.std.specs.Str.{chars, IsUtf8}
 use Rattle.std.proofs.Math.Utf8.{encode, encodes}
 use Rattle.std.proofs.lemmas.Str.{encode_ascii, encodes-chars}
-use Rattle.std.proofs.lemmas.Bool.{ltb-true, eqb-true, eq-eqb, ne_eqb, and_parts, and_left, cases_lt, cond_both, false_from_ne_true, not-true}
+use Rattle.std.proofs.lemmas.Bool.{ltb-true, eqb-true, eq-eqb, ne_eqb, and_parts, and_left, and_right, cases_lt, cond_both, false_from_ne_true, not-true}
 use Rattle.rst_inline_scan.specs.Marked.{markup_of}
 use Rattle.std.proofs.lemmas.Bool.Decides.{nat_tests}
 use Rattle.std.proofs.lemmas.List.Elements.{All-from_get_or}
@@ -19,7 +19,7 @@ use Rattle.rst_inline_scan.specs.Mail.{holds_at_sign}
 use Rattle.rst_inline_scan.specs.Registered.{holds_colon}
 use Rattle.rst_inline_scan.proofs.MailLemmas.{absent-chars}
 use Rattle.rst_inline_scan.proofs.AskedLemmas.{asked-pieces}
-use Rattle.rst_inline_scan.specs.Quiet.{is_quiet, quiet}
+use Rattle.rst_inline_scan.specs.Quiet.{is_quiet, quiet, may_hold_links}
 use Rattle.rst_inline_scan.specs.declared.piece.Piece.{Piece}
 use Rattle.rst_inline_scan.proofs.WordLemmas.{IsBarred, unmarked, differs, no-piece-barred}
 use Rattle.rst_inline_scan.proofs.NameLemmas.{no-underscore}
@@ -82,9 +82,9 @@ quiet-base : (mail : Bool) (t : Text) → quiet mail t ≡ true → IsQuiet t
 quiet-base false t h = h
 quiet-base true t h = (quiet-parts t h).0
 
-unmailed : (mail : Bool) (t : Text) → quiet mail t ≡ true → mail ≡ true → holds_at_sign t ≡ false
-unmailed false t h asked = absurd (true≢false (sym asked))
-unmailed true t h asked = (quiet-parts t h).1
+unmailed : (mail : Bool) (t : Text) → quiet mail t ≡ true → (mail && holds_at_sign t) ≡ false
+unmailed false t h = refl
+unmailed true t h = (quiet-parts t h).1
 
 colonless : (t : Text) → IsQuiet t → holds_colon t ≡ false
 colonless [] h = refl
@@ -92,9 +92,11 @@ colonless (c ∷ cs) h =
     let parts = and_parts (is_quiet c) (quiet false cs) h in
     ap (λ b. b || holds_colon cs) (differs is_quiet c 58 parts.0 refl) ∙ colonless cs parts.1
 
+no-links : (mail registered : Bool) (t : Text) → quiet mail t ≡ true → may_hold_links mail registered t ≡ false
+no-links mail registered t h = ap₂ (λ a b. a || b) (unmailed mail t h) (and_right registered (holds_colon t) (colonless t (quiet-base mail t h)))
+
 pub quiet-pieces : (mail registered : Bool) (t : Text) → quiet mail t ≡ true → IsPieces mail registered t 0 (whole t)
-quiet-pieces mail registered t h =
-    let base = quiet-base mail t h in asked-pieces mail registered t (whole t) (unmailed mail t h) (λ asked. colonless t base) (marked-pieces t base)
+quiet-pieces mail registered t h = asked-pieces mail registered t (whole t) (no-links mail registered t h) (marked-pieces t (quiet-base mail t h))
 
 pub quiet-one : (mail registered : Bool) (t : Text) → quiet mail t ≡ true → 0 < length t → IsPieces mail registered t 0 (plain_from 0 (length t) ∷ [])
 quiet-one mail registered [] h some = absurd (omega arith)

@@ -1,11 +1,11 @@
 -- URIs of registered schemes.
-use Rattle.std.proofs.Common.{◌≡◌, ⊎_elim, ℕ, ◌+◌, ◌-◌, ◌<◌, ◌≤◌, Bool, true, false, not, ◌&&◌, ◌||◌, ◌==◌, cond, List, [], ◌∷◌, Option, Some, None, length, option_and_then, option_map, get_or, true≢false, refl, sym, ap, ap₂, ◌∙◌, subst, arith}
+use Rattle.std.proofs.Common.{◌≡◌, ⊎_elim, ℕ, ◌+◌, ◌-◌, ◌<◌, ◌≤◌, Bool, true, false, not, ◌&&◌, ◌||◌, ◌==◌, cond, List, [], ◌∷◌, Option, Some, None, length, option_and_then, option_map, drop, map, get_or, inl, inr, Bor, true≢false, refl, sym, ap, ap₂, ◌∙◌, subst, arith}
 use Rattle.std.specs.Prelude.{nat_lt, find}
 use Rattle.std.specs.List.{list_all, list_any}
 use Rattle.std.specs.Char.{is_ascii_alphanumeric, to_ascii_lowercase}
-use Rattle.std.proofs.lemmas.Bool.{lt-ltb, le-ltb, eqb-true, and_parts, and_left, cases_lt}
+use Rattle.std.proofs.lemmas.Bool.{lt-ltb, ltb-true, le-ltb, eqb-true, and_parts, and_left, cases_lt}
 use Rattle.std.proofs.lemmas.Bool.Decides.{nat_tests}
-use Rattle.std.proofs.lemmas.List.{get_or_past}
+use Rattle.std.proofs.lemmas.List.{get_or_past, drop_more, at_drop_all}
 use Rattle.std.proofs.lemmas.List.Folds.{list_any_at}
 use Rattle.rst_text.specs.Characters.{Text, has}
 use Rattle.rst_text.specs.Places.{last_from, IsLast}
@@ -87,6 +87,37 @@ unregistered t i h = ap (λ r. option_map (uri_piece i) (option_and_then (last_e
 
 pub no-registered : (t : Text) (i e : ℕ) → IsWord t i e → may_name_scheme t e ≡ false → registered_uri t i ≡ None
 no-registered t i e run stops = unregistered t i (none-there t i schemed registered (λ word s h. no-scheme t i e word run stops s h) refl)
+
+-- the first that is there is one of the words
+find-here : (p : List ℕ → Bool) (words : List (Bor (List ℕ))) (k : ℕ) (d : Bor (List ℕ)) → k < length words → p (get_or words k d).now ≡ true → find p (map (λ word. word.now) (drop k words)) ≡ Some (get_or words k d).now
+find-here p words k d below holds = rw (drop_more words k d below, holds) refl
+
+pub found-end : (t : Text) (i : ℕ) (words : List (Bor (List ℕ))) (k : ℕ) (d : Bor (List ℕ)) → k < length words → has_any_case t i (get_or words k d).now ≡ true
+    → find (has_any_case t i) (map (λ word. word.now) (drop k words)) ≡ find (has_any_case t i) registered → Some (i + length (get_or words k d).now) ≡ registered_end t i
+unfolding registered_end
+found-end t i words k d below holds same = ap (option_map (λ scheme. i + length scheme)) (sym (find-here (has_any_case t i) words k d below holds) ∙ same)
+
+pub no-end : (t : Text) (i : ℕ) (words : List (Bor (List ℕ))) (k : ℕ) → length words ≤ k
+    → find (has_any_case t i) (map (λ word. word.now) (drop k words)) ≡ find (has_any_case t i) registered → None ≡ registered_end t i
+unfolding registered_end
+no-end t i words k past same = ap (option_map (λ scheme. i + length scheme)) (sym (at_drop_all (λ rest. find (has_any_case t i) (map (λ word. word.now) rest)) words k past) ∙ same)
+
+-- a scheme isn't empty
+first-above : (t : Text) (i : ℕ) (words : List (List ℕ)) (e : ℕ) → list_all (λ word. nat_lt 0 (length word)) words ≡ true → option_map (λ scheme. i + length scheme) (find (has_any_case t i) words) ≡ Some e → i < e
+first-above t i [] e all h = absurd (none_is h)
+first-above t i (word ∷ words) e all h =
+    let some = and_parts (nat_lt 0 (length word)) (list_all (λ word. nat_lt 0 (length word)) words) all in
+    let long : 0 < length word = ltb-true 0 (length word) some.0 in
+    elim (cases_bool (has_any_case t i word)) [
+      | inl stands ↦
+          (let same : Some (i + length word) ≡ Some e = rw stands at h in
+          subst (λ n. i < n) (some_is same) (let less : i < i + length word = omega arith in less))
+      | inr other ↦ first-above t i words e some.1 (rw other at h)
+    ]
+
+pub registered_end-above : (t : Text) (i e : ℕ) → Some e ≡ registered_end t i → i < e
+unfolding registered_end
+registered_end-above t i e h = first-above t i registered e refl (sym h)
 
 -- ---- without a colon
 

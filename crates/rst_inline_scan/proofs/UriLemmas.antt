@@ -58,7 +58,7 @@ scheme-uri t i (c ∷ cs) h all k above below =
     rest)
     (lt_eq_gt k i)
 
-scheme-fits : (t : Text) (i : ℕ) (word : List ℕ) → has_any_case t i word ≡ true → i ≤ length t → i + length word ≤ length t
+pub scheme-fits : (t : Text) (i : ℕ) (word : List ℕ) → has_any_case t i word ≡ true → i ≤ length t → i + length word ≤ length t
 scheme-fits t i [] h within = omega arith
 scheme-fits t i (c ∷ cs) h within =
     let here = and_parts (has_letter t i c) (has_any_case t (i + 1) cs) h in

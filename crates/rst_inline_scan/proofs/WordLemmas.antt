@@ -210,7 +210,6 @@ inside-word mail registered t from i to k run order above upto =
     by mail registered before past later
   where
     by : (mail registered : Bool) → may_precede_start (get_or t (k - 1) 0) ≡ false → (k == 0) ≡ false → (k == from) ≡ false → piece_at mail registered t from k ≡ None
-    unfolding piece_at marked_or_registered is_free is_free_link
     by false false before past later = rw (before, past, and-false (not (is_escaped t from k))) refl
     by true false before past later = rw (before, past, later, and-false (not (is_escaped t from k))) refl
     by false true before past later = rw (before, past, later, and-false (not (is_escaped t from k))) refl

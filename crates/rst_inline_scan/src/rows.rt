@@ -160,8 +160,8 @@ pub fn registered_uris()
     ensures joints_in_schemes { CutsWider "whois++:a z39.50r:b GSM-SMS:c whois:d"
         ((Uri, "whois++:a") ∷ (Plain, " ") ∷ (Uri, "z39.50r:b") ∷ (Plain, " ") ∷ (Uri, "GSM-SMS:c") ∷ (Plain, " whois:d") ∷ []) }
     ensures letter_before_a_scheme { CutsWider "xhttp:a x-http:a" ((Plain, "xhttp:a x-") ∷ (Uri, "http:a") ∷ []) }
-    ensures last_characters { CutsWider "http:c- http:c=; http:c_ (http:c)d)"
-        ((Uri, "http:c") ∷ (Plain, "- ") ∷ (Uri, "http:c=") ∷ (Plain, "; ") ∷ (Uri, "http:c_") ∷ (Plain, " (") ∷ (Uri, "http:c)d") ∷ (Plain, ")") ∷ []) }
+    ensures last_characters { CutsWider "http:c- http:c=; http:c~ (http:c)d)"
+        ((Uri, "http:c") ∷ (Plain, "- ") ∷ (Uri, "http:c=") ∷ (Plain, "; ") ∷ (Uri, "http:c~") ∷ (Plain, " (") ∷ (Uri, "http:c)d") ∷ (Plain, ")") ∷ []) }
     ensures cut_back { CutsWider "http:a.b<d> http:é" ((Uri, "http:a") ∷ (Plain, ".b<d> http:é") ∷ []) }
     ensures before_an_angle { CutsWider "<http:a.> <http:b.\\>" ((Plain, "<") ∷ (Uri, "http:a.") ∷ (Plain, "> <") ∷ (Uri, "http:b.\\") ∷ (Plain, ">") ∷ []) }
     ensures query_and_fragment { CutsWider "http:a?b=c#d http:a#b?c" ((Uri, "http:a?b=c#d") ∷ (Plain, " ") ∷ (Uri, "http:a#b") ∷ (Plain, "?c") ∷ []) }

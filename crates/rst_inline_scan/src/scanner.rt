@@ -6,6 +6,7 @@ ghost use Rattle.rst_inline_scan.specs.Marked.{markup_of};
 ghost use Rattle.rst_inline_scan.specs.Pieces.{unlinked_at, markup_at, marked_or_registered, piece_at, IsPieces};
 ghost use Rattle.rst_inline_scan.specs.Reading.{plain_if};
 ghost use Rattle.rst_inline_scan.specs.Missing.{HasNoAddress, IsMissing};
+ghost use Rattle.rst_inline_scan.specs.Quiet.{may_hold_links};
 ghost use Rattle.rst_inline_scan.specs.Words.{IsWord};
 
 use super::calm::step;
@@ -99,6 +100,20 @@ fn piece_at(
     }
 }
 
+/// Whether the text may hold an e-mail address or a URI of a registered scheme, where these are asked for.
+fn may_hold_links(mail: bool, registered: bool, text: &[char]) -> bool
+    ensures { result ≡ may_hold_links mail registered text.now }
+{
+    (mail && text.contains(&'@')) || (registered && text.contains(&':'))
+}
+
+/// The same of a text whose characters the bytes are.
+fn may_hold_links_ascii(mail: bool, registered: bool, bytes: &[u8]) -> bool
+    ensures { result ≡ may_hold_links mail registered bytes.now }
+{
+    (mail && bytes.contains(&b'@')) || (registered && bytes.contains(&b':'))
+}
+
 /// The pieces of the text, in order: with e-mail addresses where `mail` asks for them, and with the URIs of registered schemes in place of those of the base
 /// where `registered` does. Exactly one list is that of a text ([`super::one_list_of_pieces`]).
 ///
@@ -113,10 +128,7 @@ pub fn pieces_of(
 ) -> Result<Vec<Piece>, AllocError>
     ensures { IfOk result (λ pieces. IsPieces mail registered text.now 0 pieces.items) }
 {
-    if mail && text.contains(&'@') {
-        return pieces_and_links(mail, registered, text, pieces);
-    }
-    if registered && text.contains(&':') {
+    if may_hold_links(mail, registered, text) {
         return pieces_and_links(mail, registered, text, pieces);
     }
     let mut bytes = Vec::with_capacity(alloc, text.len())?;
@@ -137,10 +149,7 @@ pub fn pieces_of_ascii(
     requires { bytes.now ≡ text.now }
     ensures { IfOk result (λ pieces. IsPieces mail registered text.now 0 pieces.items) }
 {
-    if mail && bytes.contains(&b'@') {
-        return pieces_and_links(mail, registered, text, pieces);
-    }
-    if registered && bytes.contains(&b':') {
+    if may_hold_links_ascii(mail, registered, bytes) {
         return pieces_and_links(mail, registered, text, pieces);
     }
     pieces_by(text, bytes, pieces)
@@ -277,7 +286,15 @@ fn pieces_and_links(
     while place < text.len() {
         let end = word_end(text, place);
         match piece_or_link(
-            text, from, place, end, escaped, mail, registered, &mut missing, &mut searched,
+            text,
+            from,
+            place,
+            end,
+            escaped,
+            mail,
+            registered,
+            &mut missing,
+            &mut searched,
         ) {
             Some(piece) => {
                 push_plain(&mut pieces, from, place)?;
