@@ -34,6 +34,7 @@ MAILS = (
     "a@é.cd|<a@b.cd>|`a@b.cd`|*a@b.cd*|``a@b.cd``|`a@b.cd`_|`t <a@b.cd>`_|`t <a@b.cd>`__|`<a@b.cd>`__|`<a@b.cd>`_|mailto:a@b.cd|http://a@b.cd/x|"
     "a@b.cd/x?y=z|a@b.cd#f|a@b.cd>|{a}@b.cd|a%b@c.d~|a@b@c.d|@b.cd|a@|a@b.c\\d|a\\.b@c.d|a@b.cd-x|a@b.cd,c@d.ef|a|b@c.de|-a@b.cd|`t <m\\e@b.cd>`__"
 ).split("|")
+URIS = "ssh://x.org|http:a|urn:a:b|Tel:+1-8|http:a-|http:a.b<c>|<http:a.>|http:a?b=c#d|http:a?#b|http:/\\*x|http:c\\ d|news:a_|http:|view-source:a".split("|")
 AROUND = [("", ""), ("", ""), ("(", ")"), ("x ", " y"), ("<", ">"), ("", ":"), ("", ": z"), ("\\ ", "\\ "), ("", ",")]
 KEYWORDS = (
     "$Date: 2005/12/30 10:11:12 $|$date: 2005-12-30T1 $|$Date: 2005/1/3 4 $|$RCSfile: a,v $|$rcsfile: a b,v $|$Id: a b $|$id: q $|$Id:a $|$Id: $|"
@@ -64,9 +65,9 @@ class Maker:
         return self.of(name, name, name.upper(), name.title())
 
     def address(self) -> str:
-        """An address, or almost one."""
+        """An address or a URI, or almost one."""
         ends = ["".join(self.chance.choices("ab1.-~!'{}/#?^&=+$%", k=self.chance.randint(0, 4))) for _ in range(3)]
-        return self.of(*MAILS, f"{ends[0]}{self.of('a', '')}{ends[1]}@{self.of('b', '')}{ends[2]}{self.of('c', '.', '>', ')', ' c')}")
+        return self.of(*MAILS, *URIS, f"{ends[0]}{self.of('a', '')}{ends[1]}@{self.of('b', '')}{ends[2]}{self.of('c', '.', '>', ')', ' c')}")
 
     def piece(self) -> str:
         role, text = self.cased(self.of(*ROLES)), self.of(*TEXTS)

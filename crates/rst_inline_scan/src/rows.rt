@@ -152,7 +152,7 @@ pub fn uris()
     ensures escaped { Cuts "\\http://a" ((Plain, "\\http://a") ∷ []) }
 {}
 
-/// Standalone URIs of registered schemes (Markup Specification, 'Standalone Hyperlinks'; docs/profile/wider.md, 'URIs').
+/// Standalone URIs of registered schemes (Markup Specification, 'Standalone Hyperlinks').
 pub fn registered_uris()
     ensures characters { filter is_uric (codes "!\"#$%&'()*+,-./:;<=>?@[\\]^_`{|}~ aZ09ä") ≡ codes "!$%&'()*+,-./:;=@[]_~aZ09" }
     ensures schemes { CutsWider "ssh://x.org, git://y.org" ((Uri, "ssh://x.org") ∷ (Plain, ", git://y.org") ∷ []) }
