@@ -40,8 +40,8 @@ HOLD = {
     "Adornment": "char", "Begun": "Adornment char", "Class": "char", "Item": "char", "LineTest": "char", "Letter": "char", "ListKind": "char",
     "Style": "char",
     # tables
-    "Cell": "CellLines", "CellLines": "String", "GridLines": "TableLine", "Place": "char", "Ranks": "Tiling", "Rows": "Cell",
-    "Runs": "TableLine", "SimpleLines": "TableLine", "TableLine": "Place", "TableResult": "Rows", "Tiling": "TableLine",
+    "Cell": "CellLines", "CellLines": "CellTexts", "CellTexts": "String", "GridLines": "TableLine", "Place": "char", "Ranks": "Tiling",
+    "Rows": "Cell", "Runs": "TableLine", "SimpleLines": "TableLine", "TableLine": "Place", "TableResult": "Rows", "Tiling": "TableLine",
     # directives
     "Argument": "String", "Detail": "String", "Directive": "Argument DirectiveFault Setting", "DirectiveFault": "Detail String", "Field": "char",
     "Found": "Argument Setting", "OptionMark": "Argument", "OptionValue": "String Target", "Reading": "Argument Setting", "Setting": "OptionValue",
@@ -52,7 +52,8 @@ HOLD = {
     "Step": "TableResult Waits", "Waits": "OpenReplacement", "WrongForm": "str",
     # functions
     "add_line": "char", "alone": "N", "definition_of": "String", "definition_or_error": "String", "from": "E", "heading_of": "String",
-    "joined_nonempty": "char", "mailed": "String", "option": "str", "push": "N", "push_count": "String", "replacement": "String", "shortened": "String",
+    "joined_nonempty": "char", "kept": "String", "mailed": "String", "option": "str", "push": "N", "push_count": "String", "replacement": "String",
+    "shortened": "String",
     MACHINE: "Begun Cell Ended Frame Frames LineTest Lines OpenBlock Rows Step TableResult Waits",
 }
 # How many lines there are, their numbers, where they are, and which parts of the wider profile hold in them; how views and lines are made.

@@ -1,8 +1,9 @@
 -- The lines of a grid table.
-use Rattle.std.proofs.Common.{◌≡◌, ℕ, suc, ◌+◌, ◌-◌, ◌<◌, ◌≤◌, Bool, true, false, cond, ◌&&◌, List, [], ◌∷◌, length, take, drop, length-take, length-drop, get_or, map, refl, sym, ap, ap₂, ◌∙◌, arith, leb, Option, Some, None}
+use Rattle.std.proofs.Common.{◌≡◌, ℕ, suc, ◌+◌, ◌-◌, ◌<◌, ◌≤◌, Bool, true, false, cond, ◌&&◌, List, [], ◌∷◌, length, take, drop, length-take, length-drop, get_or, map, refl, sym, ap, ap₂, ◌∙◌, arith, leb, Option, Some, None, bytes_eq, chars}
 use Rattle.std.proofs.lemmas.List.{drop_more, drop-drop, drop-map, get_or-map, length-map, take-map, take-take}
 use Rattle.std.proofs.lemmas.Bool.{leb-true, leb-false}
 use Rattle.std.proofs.Math.Nat.{le-min}
+use Rattle.std.specs.Cmp.Lexicographic.{bytes_decides}
 use Rattle.std.specs.List.{list_any}
 use Rattle.std.specs.Str.{all_scalars}
 use Rattle.rst_text.specs.Block.{Block, first_text, first_number, first_parts, no_line}
@@ -21,6 +22,10 @@ use Rattle.rst_markup_tables.specs.Cells.{characters, AreOfLine}
 use Rattle.rst_markup_tables.specs.GridTable.{dash}
 use Rattle.rst_markup_tables.specs.declared.places.Place.{Place}
 use Rattle.rst_markup_tables.specs.declared.places.Place.TheVariants.{Character, Second}
+
+-- a line that is the same as a border is one
+pub known_border : (border text : List ℕ) → bytes_eq border text ≡ true → is_grid_border (chars border) ≡ true → true ≡ is_grid_border (chars text)
+known_border border text same is = sym (ap (λ bytes. is_grid_border (chars bytes)) (sym ((bytes_decides border text).0 same)) ∙ is)
 
 -- ---- a line that was read
 

@@ -10,7 +10,7 @@ ghost use Rattle.rst_markup_tables.specs.Places.{AreNumbered};
 
 use super::Result;
 use super::places::{Place, TableLine, row_at};
-use super::results::{CellLines, Texts};
+use super::results::{CellLines, CellTexts};
 use rst_markup_lines::is_blank;
 use rst_settings::Parts;
 use rst_text::{indentation, skip};
@@ -153,7 +153,7 @@ pub(crate) fn cell_lines(
     Ok(CellLines {
         first,
         count,
-        texts: Texts::of(texts),
+        texts: CellTexts::kept(texts),
         parts,
     })
 }

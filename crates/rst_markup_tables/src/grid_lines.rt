@@ -1,6 +1,7 @@
 //! Grid tables: which lines they are, and what is wrong with them.
-ghost use Rattle.std.specs.Prelude.{◌≡◌, ◌+◌, ◌^◌, ◌<◌, ◌≤◌, length, map, drop, take, IfOk, OnOk, IfSome};
+ghost use Rattle.std.specs.Prelude.{◌≡◌, ◌+◌, ◌^◌, ◌<◌, ◌≤◌, true, length, map, drop, take, IfOk, OnOk, IfSome, chars};
 ghost use Rattle.rst_markup_blocks.specs.Prelude.{Looked, capped, block_of};
+ghost use Rattle.rst_markup_lines.specs.Border.{is_grid_border};
 ghost use Rattle.rst_markup_blocks.specs.Lines.{lines_while};
 ghost use Rattle.rst_markup_blocks.specs.TableRows.{grid_bottom, grid_size, grid_scan};
 ghost use Rattle.rst_markup_blocks.specs.declared.lines.LineTest.TheVariants.{Drawn};
@@ -23,6 +24,20 @@ pub(crate) struct GridLines {
     pub(crate) bottom: Option<usize>,
 }
 
+/// Whether a line is a border. One that is known spares most others a look at their characters, since most are alike.
+#[tactic(auto, using(crate::proofs::GridLemmas::known_border))]
+fn is_border(text: &str, known: Option<&str>) -> bool
+    requires { IfSome known (λ t. is_grid_border (chars t.now) ≡ true) }
+    ensures { result ≡ is_grid_border (chars text.now) }
+{
+    if let Some(border) = known {
+        if border == text {
+            return true;
+        }
+    }
+    is_grid_border(text)
+}
+
 /// The lines from a place on up to the first that doesn't begin with `+` or `|`, and the bottom border among them.
 fn drawn_lines(alloc: Global, view: &View<'_>, i: usize, looks: &mut Looks) -> Result<GridLines>
     requires there { i < length (block_of view.now) }
@@ -34,14 +49,16 @@ fn drawn_lines(alloc: Global, view: &View<'_>, i: usize, looks: &mut Looks) -> R
 {
     let mut lines = Vec::new(alloc);
     let mut bottom = None;
+    let mut border = None;
     for k in i..view.len() {
         let text = view.line(k, looks);
         if !is_drawn(text) {
             return Ok(GridLines { lines, bottom });
         }
         // It may be the bottom border from the third line on.
-        if k - i >= 2 && is_grid_border(text) {
+        if k - i >= 2 && is_border(text, border) {
             bottom = Some(k - i);
+            border = Some(text);
         }
         let line = line_of(alloc, view, k, text)?;
         lines.push(line)?;

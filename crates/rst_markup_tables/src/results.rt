@@ -9,25 +9,25 @@ use std::slice;
 
 /// The texts of a cell that aren't blank, with their places. Most cells have one, which takes no list.
 #[derive(Debug, Drop)]
-pub(crate) enum Texts {
+pub(crate) enum CellTexts {
     One((usize, String)),
     More(Vec<(usize, String)>),
 }
 
-impl Texts {
+impl CellTexts {
     ghost use Rattle.rst_text.specs.Source.{texts_with};
     ghost use Rattle.rst_markup_tables.specs.Kept.{kept_texts};
 
     /// These texts.
-    pub(crate) fn of(mut texts: Vec<(usize, String)>) -> Texts
+    pub(crate) fn kept(mut texts: Vec<(usize, String)>) -> CellTexts
         ensures { kept_texts result ≡ texts_with texts.items }
     {
         if texts.len() == 1 {
             if let Some(text) = texts.pop() {
-                return Texts::One(text);
+                return CellTexts::One(text);
             }
         }
-        Texts::More(texts)
+        CellTexts::More(texts)
     }
 
     /// The texts.
@@ -35,8 +35,8 @@ impl Texts {
         ensures { texts_with result.now ≡ kept_texts self.now }
     {
         match self {
-            Texts::One(text) => slice::from_ref(text),
-            Texts::More(texts) => texts.as_slice(),
+            CellTexts::One(text) => slice::from_ref(text),
+            CellTexts::More(texts) => texts.as_slice(),
         }
     }
 }
@@ -48,7 +48,7 @@ impl Texts {
 pub struct CellLines {
     pub(crate) first: usize,
     pub(crate) count: usize,
-    pub(crate) texts: Texts,
+    pub(crate) texts: CellTexts,
     pub(crate) parts: Parts,
 }
 

@@ -1,4 +1,6 @@
+use Rattle.std.proofs.lemmas.Bool.{and_parts, cond_both}
 use Rattle.std.proofs.lemmas.Bool.Decides.{nat_tests}
+use Rattle.std.specs.Prelude.{IfSome, chars}
 use Rattle.std.proofs.Common.{◌≡◌, ◌+◌, ◌-◌, ◌∙◌, ◌&&◌, true, false, cond, leb, Some, Option, ℕ, ap, sym, subst, take, drop, length-drop, arith}
 use Rattle.rst_text.specs.Block.{Block, first_text}
 use Rattle.rst_text.specs.Places.{IsLast}
@@ -43,11 +45,14 @@ loop-k-preserved c =
     let more = line_more B c.args.i c.loop-k.k c.in_ok-line.line c.loop-k.lines.items (omega arith) (omega arith) c.in_ok-line.ensures.line (c.in_ok-line.ensures.number, c.in_ok-line.ensures.parts) c.loop-k.invariant.lines c.loop-k.invariant.numbered in
     let step = border-more B c.args.i c.loop-k.k c.loop-k.bottom (omega arith) c.loop-k.invariant.last in
     let new : c.if-k-i-ge2.bottom ≡ cond (leb 2 n && is_grid_border (first_text (drop c.loop-k.k B))) (Some n) c.loop-k.bottom = grind (arith, nat_tests, c.line-text.ensures.text) in
+    let border : c.if-k-i-ge2.border ≡ cond (leb 2 n && is_grid_border (first_text (drop c.loop-k.k B))) (Some c.line-text.result) c.loop-k.border = grind (arith, nat_tests, c.line-text.ensures.text) in
     record {
       lines = c.in_ok-push.ensures.items ∙ more.0;
       among = sym (while_more c.loop-k.k Drawn B (omega arith) drawn) ∙ c.loop-k.invariant.among;
       numbered = more.1;
       last = subst (λ (o : Option ℕ). IsLast (is_border_at (drop c.args.i B)) 2 (c.loop-k.k + 1 - c.args.i) o) (sym new) step;
+      border = rw border (cond_both (leb 2 n && is_grid_border (first_text (drop c.loop-k.k B))) (Some c.line-text.result) c.loop-k.border (λ o. IfSome o (λ t. is_grid_border (chars t.now) ≡ true))
+          (λ e. ap is_grid_border c.line-text.ensures.text ∙ (and_parts _ _ e).1) (λ _. c.loop-k.invariant.border));
       looked = search (arith, c.line-text.ensures.looks);
     }
 
