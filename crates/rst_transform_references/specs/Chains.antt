@@ -12,7 +12,7 @@ use Rattle.rst_transform_references.specs.declared.chains.Step.{Step}
 use Rattle.rst_transform_references.specs.declared.chains.Step.TheVariants.{To, Ends}
 use Rattle.rst_transform_references.specs.Holders.{holder_place, is_nobody}
 use Rattle.rst_transform_references.specs.Leads.{is_target_node, name_lead}
-use Rattle.rst_transform_references.specs.Links.{node_at, places_of}
+use Rattle.rst_transform_references.specs.Links.{node_at}
 use Rattle.rst_transform_references.specs.Table.{Links}
 use Rattle.rst_transform_work.specs.Lists.{at_place}
 use Rattle.rst_transform_work.specs.Reading.{text_of_attribute}

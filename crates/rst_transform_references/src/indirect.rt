@@ -59,7 +59,8 @@ pub fn resolve_indirect(context: &mut Context, links: &mut Links<'_>) -> Result<
     let places = places_by_number(alloc, links, context.serials)?;
     let steps = steps_of(alloc, &mut context.names, &places, links)?;
     let answers = answers(alloc, &steps)?;
-    conclude_all(context, links, &places, &answers)
+    conclude_all(context, links, &places, &answers)?;
+    Ok(())
 }
 
 /// Lets what each indirect target comes to happen to it and to the references to it.
