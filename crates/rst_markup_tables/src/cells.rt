@@ -91,7 +91,9 @@ pub(crate) fn reaching(
         return Ok(among);
     }
     let places = among.iter().copied();
-    places.filter(|k| row_at(lines, *k).len() > n).collect(alloc)
+    places
+        .filter(|k| row_at(lines, *k).len() > n)
+        .collect(alloc)
 }
 
 /// The least indentation of texts that aren't blank, 0 if there is none.
