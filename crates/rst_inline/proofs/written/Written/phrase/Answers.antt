@@ -18,5 +18,5 @@ returns-in-Some c =
     let meaning = ap chars c.as_str-in-Some.ensures.value ∙ c.in_ok-meaning.ensures ∙ ap (meant w.parts.now.mail) (enclosed-part t p place c.requires inside) in
     let alias = c.is_alias-alias.ensures ∙ ap is_alias (c.part.ensures ∙ ap (λ (phrase : Text). enclosed phrase place) phrase) in
     let at : Some place ≡ embedded_at (content t p) = c.in-Some.ensures.exact ∙ ap embedded_at phrase in
-    let is = phrase-embedded w.parts.now.mail c.args.suffix (source t p) (content t p) _ _ _ place w.line _ c.part-source.ensures display_text meaning alias at in
+    let is = phrase-embedded w.parts.now c.args.suffix (source t p) (content t p) _ _ _ place w.line _ c.part-source.ensures display_text meaning alias at in
     subst (λ m. IfOk c.embedded.result (λ reading. reading ≡ m)) is c.embedded.ensures
