@@ -23,6 +23,12 @@ returns c known h =
     let places : c.in_ok-places.places.items ≡ places_by_number known.serials links = at ∙ ap (λ (n : ℕ). places_by_number n links) h.serials in
     let answered : c.in_ok-answers.answers.items ≡ answers_of (steps_of (entry_named c.args.context.now.names) c.in_ok-places.places.items links) = search rules in
     let answers : c.in_ok-answers.answers.items ≡ answers_of (steps_of known.names c.in_ok-places.places.items links) = answered ∙ (λ i. answers_of (steps_of (λ name. h.names name i) c.in_ok-places.places.items links)) in
-    let named = λ name. c.in_ok-steps.ensures.names name ∙ (λ i. names_before (length links.linked) c.in_ok-places.places.items links (λ other. h.names other i) name) in
-    let done = c.in_ok-conclude_all.ensures (record known { names = names_before (length links.linked) c.in_ok-places.places.items links known.names }) (record h { names = named }) in
+    let done =
+    c.in_ok-conclude_all.ensures (record known { names = names_before (length links.linked) c.in_ok-places.places.items links known.names }) (record {
+      ids = h.ids;
+      names = λ name. c.in_ok-steps.ensures.names name ∙ (λ i. names_before (length links.linked) c.in_ok-places.places.items links (λ other. h.names other i) name);
+      reports = h.reports;
+      first_number = h.first_number;
+      serials = h.serials;
+    }) in
     rw (sym (any_from_yields_List (λ place. is_some (indirect_name (node_at place links))) c.any.new.self _ c.any.result c.any.ensures.ran (YieldsList-from_range 0 c.len.result (length links.linked) refl (omega (arith, c.len.ensures))) (λ x b q k. search (rules, tests))) ∙ c.if-not-any.false, ← places, ← answers) done
