@@ -1,4 +1,4 @@
-use Rattle.std.proofs.Common.{arith, rules}
+use Rattle.std.proofs.Common.{◌∙◌, arith, rules}
 use Rattle.std.proofs.lemmas.Grind.{common_steps}
 use Rattle.std.specs.Str.{chars}
 use Rattle.rst_block_nodes.proofs.MessageLemmas.{messages_from_length}
@@ -19,4 +19,4 @@ returns-then-is_empty-clause-text c =
     (read, c.in_ok-nodes.ensures.read, record { element = search rules; notes = grind (arith, common_steps) })
 
 pub returns-then-is_empty-clause-read : goal.returns-then-is_empty-clause-read
-returns-then-is_empty-clause-read c = texted_read c.args.parts.now c.args.tag c.args.line (chars c.args.text.now) c.args.text_line c.args.numbers.now c.args.numbers.now _ (returns-then-is_empty-clause-text c) (search rules)
+returns-then-is_empty-clause-read c = texted_read c.args.parts.now c.args.tag c.args.line (chars c.args.text.now) c.args.text_line c.args.numbers.now c.inline.new.self _ (returns-then-is_empty-clause-text c) (c.inline.ensures.given ∙ search rules)
