@@ -23,7 +23,7 @@ use Rattle.rst_tree_laws.specs.Texts.{AttrsHave, NodeHas, NodesHave, TextsHave}
 use Rattle.rst_tree_index.specs.Parsed.{levels_by}
 use Rattle.rst_tree_laws.proofs.Have.{note_has}
 use Rattle.rst_tree_laws.proofs.Lists.{all_append}
-use Rattle.rst_block_laws.proofs.Weights.{HoldsAny, Open, is_flat, light_at, named_too, node_height_weight, node_weight, weighed, weighed_flat, weighed_more, weighed_most, weight}
+use Rattle.rst_block_laws.proofs.Weights.{HoldsAny, Open, is_flat, light_at, node_height_weight, node_weight, stands_by, weighed, weighed_flat, weighed_more, weighed_most, weight}
 use borrow.Author.Tests.{leb-true, le-leb}
 
 module _ (T : List ℕ → Type 0) where
@@ -95,7 +95,7 @@ module _ (T : List ℕ → Type 0) where
   held_flat k (Element t a c l ∷ ns) e h m =
       let may = and_parts (may_stand_as t a c) _ m in
       let flat : is_flat t c ≡ true = weighed_flat k (is_flat t c) (weight c) h.0.0 e in
-      let low = leb-true (levels_by 2 c) 1 (rw (named_too t a c may.0) at flat) in
+      let low = leb-true (levels_by 2 c) 1 (rw (stands_by t a c may.0) at flat) in
       let j = held_flat k ns e h.1 may.1 in
       cond_both (is_substitution_reference t) 2 0 (λ n. max (levels_by 2 c + 1) (max n (levels_by 2 (forest_of ns))) ≤ 2) (λ _. omega arith) (λ _. omega arith)
 

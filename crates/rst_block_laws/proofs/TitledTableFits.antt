@@ -40,7 +40,7 @@ module _ (T : List ℕ → Type 0) where
   -- ---- the content
 
   -- the parts of a table
-  pub PartsFit : ℕ → TableParts → Type 0
+  abbrev pub PartsFit : ℕ → TableParts → Type 0
   PartsFit j table = AttrsHave T table.0 × AllFit T (j - 1) table.1
 
   parts_fit : (t : Tag) (a : List Attr) (c : Forest) (line j : ℕ) → AttrsHave T a → ForestFits T (j - 1) c → IfSome (table_parts t a c line) (PartsFit j)

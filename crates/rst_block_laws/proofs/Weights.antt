@@ -6,7 +6,7 @@ use Rattle.rst_tree.specs.declared.attrs.Attr.{Attr}
 use Rattle.rst_tree.specs.declared.node.Node.{Node}
 use Rattle.rst_tree.specs.declared.node.Node.TheVariants.{Element, Text}
 use Rattle.rst_tree.specs.declared.tag.Tag.{Tag}
-use Rattle.rst_tree.specs.declared.tag.Tag.TheVariants.{Reference, SubstitutionDefinition, SubstitutionReference}
+use Rattle.rst_tree.specs.declared.tag.Tag.TheVariants.{Reference, SubstitutionDefinition, SubstitutionReference, Target}
 use Rattle.rst_tree.specs.Forest.{Forest, bare, element, words, height}
 use Rattle.rst_tree.specs.Nodes.{children_in, node_height}
 use Rattle.rst_tree.specs.Tree.{most_levels}
@@ -21,10 +21,15 @@ abbrev pub is_definition : Tag → Bool
 is_definition SubstitutionDefinition = true
 is_definition _ = false
 
+-- an element of the kind may stand in a replacement text by some attributes: a target does if it refers to a name
+abbrev pub may_stand_by : Tag → Forest → Bool
+may_stand_by Target c = true
+may_stand_by t c = may_stand_as t [] c
+
 -- What is in an element has at most one level if the element may stand in a replacement text, and at most two if it is a definition, where each
 -- substitution reference counts as two.
 abbrev pub is_flat : Tag → Forest → Bool
-is_flat t c = if may_stand_as t [] c then nat_le (levels_by 2 c) 1 else if is_definition t then nat_le (levels_by 2 c) 2 else true
+is_flat t c = if may_stand_by t c then nat_le (levels_by 2 c) 1 else if is_definition t then nat_le (levels_by 2 c) 2 else true
 
 -- an element's levels, by whether it is flat and by those in it
 abbrev pub weighed : Bool → ℕ → ℕ
@@ -65,7 +70,7 @@ light_at t c j e h = rw e h
 -- whatever its kind is
 pub low_flat : (t : Tag) (c : Forest) → levels_by 2 c ≤ 1 → is_flat t c ≡ true
 low_flat t c h =
-    cond_both (may_stand_as t [] c) (nat_le (levels_by 2 c) 1) _ (λ b. b ≡ true) (λ _. le-leb (levels_by 2 c) 1 h)
+    cond_both (may_stand_by t c) (nat_le (levels_by 2 c) 1) _ (λ b. b ≡ true) (λ _. le-leb (levels_by 2 c) 1 h)
     (λ _. cond_both (is_definition t) (nat_le (levels_by 2 c) 2) true (λ b. b ≡ true) (λ _. le-leb (levels_by 2 c) 2 (omega arith)) (λ _. refl))
 
 -- ---- what it says of levels
@@ -103,7 +108,8 @@ pub node_flat : (k : ℕ) (n : Node) → node_weight n ≤ k → k ≤ most_leve
 node_flat k (Element t a c l) h e = weight_flat k c (omega (arith, weighed_more (is_flat t c) (weight c))) e
 node_flat k (Text t) h e = tt
 
--- an anonymous reference may not stand in a replacement text
-pub named_too : (t : Tag) (a : List Attr) (c : Forest) → may_stand_as t a c ≡ true → may_stand_as t [] c ≡ true
-named_too Reference a c m = (and_parts _ _ m).1
-named_too _ a c m = m
+-- what stands in a replacement text may do so by its kind
+pub stands_by : (t : Tag) (a : List Attr) (c : Forest) → may_stand_as t a c ≡ true → may_stand_by t c ≡ true
+stands_by Reference a c m = (and_parts _ _ m).1
+stands_by Target a c m = refl
+stands_by _ a c m = m
