@@ -27,6 +27,7 @@ HARMLESS = set(
     "Self usize u64 u128 bool Option Result Ok Err Some None Vec Box ArrayVec Global Model Drop"  # numbers, lists, what is free
     " Attrs Key Level Marked MarkedIter MarkedNodes Node Note Parsed Tag Value"  # elements
     " Parts"  # Booleans
+    " Workspace"  # lists that only rst_inline can read, which sees no lines
     " View Placement Looks AllocError AllocFailed TextFault".split()  # each line of a view costs a look
 )
 SMALL = "char u8 u16 u32"  # one of them is harmless, a list of them may be a text
