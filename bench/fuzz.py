@@ -4,7 +4,7 @@
     bench/fuzz.py [--seconds N] [--seed N] [--only NUMBER] [--jobs N] [--save FOLDER] [PROGRAM]
 
 The documents that are mutated are the inputs of the worked rows (crates/rst2pseudoxml/src/rows_*.rt), those of the examples in docs/, and the
-document with every construct (scripts/whole_document.rst). A mutation changes some bytes, characters or lines, or joins parts of two documents; some documents are then
+document with every construct. A mutation changes some bytes, characters or lines, or joins parts of two documents; some documents are then
 written many times over. The arguments, too, are chosen at random. The same seed and number always make the same document. For each
 document it checks that
 
@@ -36,6 +36,7 @@ import time
 
 TOP = pathlib.Path(__file__).resolve().parent.parent
 sys.path.insert(0, str(TOP / "scripts"))
+from failing import document
 from program import program
 from rows import TABLES, Source
 
@@ -75,7 +76,7 @@ def corpus():
     """The documents that are mutated."""
     rows = [given.encode() for table in TABLES for _, _, given, _ in Source(table).rows()]
     pages = [given for page in sorted(TOP.glob("docs/**/*.md")) for given in inputs_of_page(page.read_text(encoding="utf-8"))]
-    return [*rows, *pages, (TOP / "scripts/whole_document.rst").read_bytes()]
+    return [*rows, *pages, document()]
 
 
 class Mutations:

@@ -3,7 +3,7 @@
 
     scripts/failing.py [PROGRAM]
 
-The document is scripts/whole_document.rst, with every construct. If an allocation fails, the program has to print the one line that memory
+The document is that of crates/rst2pseudoxml/src/whole_document.rt. If an allocation fails, the program has to print the one line that memory
 ran out, and nothing on standard output. If a read or a write fails, or a write takes no byte, it has to print the line for that, and nothing
 more on standard output, so what was written is a prefix of the whole. Short reads and writes must change nothing: with one byte a call, a call
 fails after each byte. Allocations fail also in a run with all options that go together, over a file. PROGRAM is by default the one that
@@ -19,7 +19,8 @@ import subprocess
 import sys
 import tempfile
 
-from program import program
+from program import TOP, program
+from rows import Source
 
 HERE = pathlib.Path(__file__).resolve().parent
 SKIPPED = 77
@@ -55,6 +56,12 @@ def preloaded(folder):
     if subprocess.run([*words, "-o", library, str(HERE / "failing.c")], check=False).returncode:
         sys.exit(f"{os.path.basename(sys.argv[0])}: {words[0]} doesn't compile failing.c")
     return library
+
+
+def document():
+    """The text of whole_document.rt."""
+    source = Source(TOP / "crates/rst2pseudoxml/src/whole_document.rt")
+    return source.constant("DOCUMENT").encode()
 
 
 class Trial:
@@ -103,7 +110,7 @@ class Trial:
 
 def main():
     path = program(sys.argv[1:])
-    text = (HERE / "whole_document.rst").read_bytes()
+    text = document()
     with tempfile.TemporaryDirectory() as folder:
         library = preloaded(folder)
         usual = Trial([path], text, library)

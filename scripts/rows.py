@@ -47,6 +47,12 @@ class Source:
         """The text that a field has."""
         return self.literal(self.take(f"{field}: {TEXT},"))
 
+    def constant(self, name):
+        """The text of a file that defines nothing but this constant."""
+        text = self.literal(self.take(rf"(?://[^\n]*\n|\s)*pub\(super\) const {name}: &str = {TEXT};"))
+        self.take(r"\Z")
+        return text
+
     def literal(self, match):
         """The text that a literal with escapes, or a raw one, means."""
         plain, _, raw = match.groups()

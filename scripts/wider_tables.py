@@ -236,7 +236,6 @@ TABLES = [
 <stdin>:1: (ERROR/3) The "list-table" directive is empty; content required.
 
 .. list-table::
-
 """,
     ),
     (

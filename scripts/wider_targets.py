@@ -23,6 +23,8 @@ TARGETS = [
 """,
         """\
 <stdin>:5: (ERROR/3) Unknown directive type "foo".
+
+.. foo:: x
 """,
     ),
     (
@@ -63,6 +65,8 @@ TARGETS = [
 """,
         """\
 <stdin>:5: (ERROR/3) Unknown directive type "foo".
+
+.. foo:: x
 """,
     ),
     (

@@ -50,3 +50,5 @@ mod rows_titles;
 mod stream_tests;
 #[cfg(test)]
 mod tests;
+#[cfg(test)]
+mod whole_document;

@@ -1,4 +1,7 @@
-.. A comment before the title.
+//! One document with every construct of the profile, and with markup that leads to most of the messages.
+
+/// The document; `scripts/failing.py` reads it here too.
+pub(super) const DOCUMENT: &str = ".. A comment before the title.
 
 =====
 Title
@@ -29,7 +32,7 @@ A paragraph with *emphasis*, **strong**, ``literal``, `title`, a_, `b c`_, in-be
 `here <https://x.org/e>`_,
 `there <a_>`__, again__, [1]_, [#]_, [#n]_, [#n]_, [*]_, [c]_, |s|, |t|, |s|_, _`inline target`, `inline target`_,
 Part_,
-https://x.org/, mailto:me@x.org, escaped\ :sub:`2` and *no end.
+https://x.org/, mailto:me@x.org, escaped\\ :sub:`2` and *no end.
 
 Roles :emphasis:`a` :strong:`b` :literal:`c` :subscript:`d` :sub:`e` :superscript:`f` :sup:`g` :title-reference:`h` :title:`i` `j`:t:
 and :nothing:`k` :sub:`l`:sup: :sup:`a`_ unknown_ |unknown| [9]_ [7]_ [d]_ [#m]_ [none]_ twice_
@@ -201,10 +204,11 @@ round_ Part_
 Part
 ~~~~
 
-	A quote by a tab.
+\tA quote by a tab.
 
 +---+
 | a
 
 == ==
 a
+";
