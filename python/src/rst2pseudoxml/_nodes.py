@@ -158,9 +158,9 @@ def _note(element: Any, document: Any) -> None:
 
 
 def _note_names(element: Any, ids: list[str], names: list[str], dupnames: list[str], document: Any) -> None:
-    """Enters the names of an element into the tables of its document."""
+    """Enters the names of an element into the tables of its document; the target of an alias has a name but no id, and isn't in them."""
     title = _title(element)
-    for place, name in enumerate(names):
+    for place, name in enumerate(names if ids else ()):
         own = ids[place] if len(ids) == len(names) else nodes.make_id(name)
         document.nameids[name] = own if own in ids else ids[0]
         document.nametypes[name] = name != title or name in dupnames
