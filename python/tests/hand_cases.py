@@ -18,7 +18,8 @@ DIRECTIVES = {
     "table": ".. table:: Truth table for *not*\n   :widths: auto\n   :align: left\n   :name: here\n\n   =====  =====\n     A    not A\n   =====  =====\n   False  True\n   True   here_\n   =====  =====\n",
     "csv-table": '.. csv-table:: Frozen Delights!\n   :header: "Treat", "Quantity", "Description"\n   :widths: 15, 10, 30\n   :stub-columns: 1\n\n   "Albatross", 2.99, "On a stick!"\n   "Crunchy Frog", 1.49, "If we took the bones out, it *wouldn\'t* be\n   crunchy, now would it?"\n\nText\n',
     "list-table": ".. list-table:: Frozen Delights!\n   :widths: 15 10 30\n   :header-rows: 1\n\n   * - Treat\n     - Quantity\n     - Description\n   * - Albatross\n     - 2.99\n     - On a :strong:`stick`!\n   * - a_\n     - [#]_\n     - |s|\n\n.. _a: b\n.. [#] c\n.. |s| replace:: d\n",
-    "list-table with a fault": ".. list-table::\n\n   - a\n   - b\n\nText\n\n.. list-table::\n\n   a\n",
+    "list-table with a fault": "Text\n\n.. list-table::\n\n   - a\n   - b\n",
+    "list-table without a list": "Text\n\n.. list-table::\n\n   a\n",
     "role": ".. role:: custom(emphasis)\n   :class: special\n\n.. role:: raw-role(raw)\n   :format: html latex\n\n.. role:: plain\n\nA :custom:`custom` :raw-role:`<br>` :PLAIN:`x` `y`:custom:.\n",
     "role before it is made": ":custom:`a`\n\n.. role:: custom\n\n:custom:`b`\n",
     "role of another role": ".. role:: code(code)\n   :language: text\n\nThe :code:`a = b`.\n\n.. role:: nope(nothing)\n\n:nope:`x`\n",
@@ -41,7 +42,7 @@ DIRECTIVES = {
 NAMES = {
     "names given before": "A\n=\n\n.. table:: x\n   :name: a\n\n   == ==\n   b  c\n   == ==\n\na_ d_ d_\n\n.. csv-table::\n   :name: d\n\n   e, _`f`\n\n.. _f: g\n\nf_\n",
     "anonymous": "`a`__ `b`__ c__\n\n.. list-table::\n\n   * - d__\n     - __ http://x.org\n\n__ http://y.org\n.. __: http://z.org\n__ a_\n\n.. _a:\n\ne\n",
-    "footnotes": "[#]_ [#x]_ [*]_ [2]_\n\n.. list-table::\n\n   * - [#]_\n     - [*]_\n   * - [C]_\n     - [1]_\n\n.. [#] a\n.. [#x] b\n.. [*] c\n.. [*] d\n.. [2] e\n.. [#] f\n.. [C] g\n.. [1] h\n",
+    "footnotes": "[#]_ [#x]_ [*]_ [2]_\n\n.. csv-table::\n\n   [#]_, [*]_\n   [C]_, [1]_\n\n.. [#] a\n.. [#x] b\n.. [*] c\n.. [*] d\n.. [2] e\n.. [#] f\n.. [C] g\n.. [1] h\n",
     "substitutions": "|a| |b| |A| |c|_ |d|__\n\n.. |a| replace:: x |b| y\n.. |b| date:: %Y\n.. |A| image:: a.png\n   :target: c_\n.. |c| replace:: z\n.. _c: http://x.org\n__ http://y.org\n.. |a| date:: %m\n",
     "problematics": "*a :nope:`b` **c\n\n.. class:: x\n\n:nope:`d` *e `f\n\n.. csv-table::\n\n   *g, h_\n",
     "titles": "A :nope:`b` c\n===\n\n.. csv-table::\n\n   a\n\nA\n-\n\nA\n-\n\n:nope:`x`\n~~~~~~~~~~\n\n_`in` title\n===========\n\nin_\n",

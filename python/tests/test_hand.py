@@ -225,7 +225,7 @@ class Beside(unittest.TestCase):
         return count
 
     def built(self, text):
-        with mock.patch.object(ours, "_HANDED", re.compile("")), mock.patch.object(_names.Names, "of", lambda *_: ({"-"}, set())):
+        with mock.patch.object(ours, "_HANDED", re.compile("")), mock.patch.object(_names.Names, "of", lambda *_: ({"-", *_names.PLACES}, set())):
             return published(text, Parser(hand="registered"), file_insertion_enabled=False)
 
     def test_rows(self):
