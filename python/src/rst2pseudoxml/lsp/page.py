@@ -170,13 +170,14 @@ def begin(node: Node) -> int:
 
 
 def named(nodes: list[Node], name: str, substitution: bool) -> int | None:
-    """The line of the element with a name, or of an internal target before it; the target that an alias leaves has no id, and isn't meant."""
+    """The line of the element with a name, or of an internal target before it. The target that an alias leaves, with a name and no id, isn't meant."""
     for node in nodes:
         if (node.tag == "substitution_definition") != substitution or not (substitution or strings(node, "ids")):
             continue
         if name in map(folded, strings(node, "names")):
             refid = dict(zip(map(folded, strings(node, "names")), strings(node, "ids"))).get(name, "")
-            return next((one.line for one in nodes if one.tag == "target" and one.attributes.get("refid") == refid), node.line)
+            before = (one.line for one in nodes if one.tag == "target" and one.attributes.get("refid") == refid and not strings(one, "names"))
+            return next(before, node.line)
     return None
 
 
